@@ -1,0 +1,5 @@
+pub mod Chars
+pub mod DistinctLemmas
+pub mod Examples
+pub mod Same
+pub mod SetLemmas

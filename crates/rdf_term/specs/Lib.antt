@@ -1,0 +1,12 @@
+pub mod Buffer
+pub mod Canonical
+pub mod Classes
+pub mod EachOnce
+pub mod Matching
+pub mod Order
+pub mod OrderLaws
+pub mod Sets
+pub mod Statement
+pub mod Terms
+pub mod TextOrder
+pub mod Validity
