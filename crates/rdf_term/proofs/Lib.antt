@@ -3,3 +3,4 @@ pub mod DistinctLemmas
 pub mod Examples
 pub mod Same
 pub mod SetLemmas
+pub mod WritingLemmas

@@ -46,7 +46,6 @@ or_true true = refl
 or_true false = refl
 
 module _ {K : Type 0} {R : K → K → Ordering} (o : IsTotalOrder R) (exact : CmpEqualImpliesEq R) where
-
   above_tied : (x y : K) → R x y ≡ Greater → R y x ≡ Less
   above_tied x y e = o.antisymm y x ∙ ap ordering_reverse e
 
@@ -71,7 +70,7 @@ module _ {K : Type 0} {R : K → K → Ordering} (o : IsTotalOrder R) (exact : C
   same_rest x q xs ys a b e = by_order (R q x)
       (λ l. not_first (is_eq (R q x)) (has R xs q) (has R ys q) (ap is_eq l) e)
       (λ l. let same : q ≡ x = exact q x l in
-          ap (has R xs) same ∙ none_below x xs a ∙ sym (ap (has R ys) same ∙ none_below x ys b))
+      ap (has R xs) same ∙ none_below x xs a ∙ sym (ap (has R ys) same ∙ none_below x ys b))
       (λ l. not_first (is_eq (R q x)) (has R xs q) (has R ys q) (ap is_eq l) e)
 
   -- two strictly ascending lists with the same elements are equal
@@ -83,11 +82,11 @@ module _ {K : Type 0} {R : K → K → Ordering} (o : IsTotalOrder R) (exact : C
   same_set (x ∷ xs) (y ∷ ys) s t h = by_order (R x y)
       (λ l. let e : true ≡ false = sym (has_itself x xs) ∙ h x ∙ none_below x (y ∷ ys) (l, below_all x y ys l t.0) in cc)
       (λ l. let first : x ≡ y = exact x y l in
-          let t' : IsStrictlySortedBy R (x ∷ ys) = subst (λ z. IsStrictlySortedBy R (z ∷ ys)) (sym first) t in
-          let h' : (q : K) → has R (x ∷ xs) q ≡ has R (x ∷ ys) q = λ q. h q ∙ ap (λ z. has R (z ∷ ys) q) (sym first) in
-          (λ i. first i ∷ same_set xs ys s.1 t'.1 (λ q. same_rest x q xs ys s.0 t'.0 (h' q)) i))
+      let t' : IsStrictlySortedBy R (x ∷ ys) = subst (λ z. IsStrictlySortedBy R (z ∷ ys)) (sym first) t in
+      let h' : (q : K) → has R (x ∷ xs) q ≡ has R (x ∷ ys) q = λ q. h q ∙ ap (λ z. has R (z ∷ ys) q) (sym first) in
+      (λ i. first i ∷ same_set xs ys s.1 t'.1 (λ q. same_rest x q xs ys s.0 t'.0 (h' q)) i))
       (λ l. let m : R y x ≡ Less = above_tied x y l in
-          let e : true ≡ false = sym (has_itself y ys) ∙ sym (h y) ∙ none_below y (x ∷ xs) (m, below_all y x xs m s.0) in cc)
+      let e : true ≡ false = sym (has_itself y ys) ∙ sym (h y) ∙ none_below y (x ∷ xs) (m, below_all y x xs m s.0) in cc)
 
   -- an insertion adds its element
   has-insert_key : (xs : List K) (k q : K) → has R (insert_key R xs k) q ≡ (is_eq (R q k) || has R xs q)

@@ -10,3 +10,4 @@ pub mod Statement
 pub mod Terms
 pub mod TextOrder
 pub mod Validity
+pub mod Writing

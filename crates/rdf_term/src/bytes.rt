@@ -32,6 +32,13 @@ impl Bytes {
         }
     }
 
+    /// The bytes of a vector, whose room they keep. It takes no memory.
+    pub fn from_vec(items: Vec<u8>) -> Bytes
+        ensures { result.items ≡ items.items }
+    {
+        Bytes { items }
+    }
+
     /// The number of bytes.
     pub fn len(&self) -> usize
         ensures { result ≡ length self.now.items }

@@ -1,0 +1,4 @@
+pub mod BodyLemmas
+pub mod FrameLemmas
+pub mod HeadLemmas
+pub mod StreamLemmas

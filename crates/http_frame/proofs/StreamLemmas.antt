@@ -1,0 +1,87 @@
+-- Lemmas on streams.
+use Rattle.std.proofs.Common.{◌≡◌, ℕ, ◌+◌, ◌-◌, ◌<◌, ◌≤◌, List, [], ◌++◌, length, take, drop, Option, Some, None, Result, Ok, sym, ap, ◌∙◌, refl, subst, arith, append_assoc, add-zero, length-take-le, length-drop, take-add, append-nil, drop_at, length-append, ◌∷◌, take-append-drop}
+use Rattle.std.proofs.lemmas.List.{take-append-le, take_at}
+use Rattle.std.specs.Io.KnownBytes.{Consumes, Keeps, IsAtEnd, ReadConsumes}
+use Rattle.http_frame.specs.Streams.{IsStream, KeepsStream, Fills}
+
+pub consumes_told : (left left' : Option (List ℕ)) (bs rest : List ℕ) → Consumes left left' bs → left ≡ Some rest
+    → (rest' : List ℕ) × (left' ≡ Some rest') × (rest ≡ bs ++ rest')
+consumes_told None left' bs rest c e = cc
+consumes_told (Some xs) None bs rest c e = absurd c
+consumes_told (Some xs) (Some ys) bs rest c e = (ys, refl, cc)
+
+pub keeps_told : (left left' : Option (List ℕ)) (rest : List ℕ) → Keeps left left' → left ≡ Some rest → left' ≡ Some rest
+keeps_told None left' rest k e = cc
+keeps_told (Some xs) None rest k e = absurd k
+keeps_told (Some xs) (Some ys) rest k e = cc
+
+pub end_told : (left : Option (List ℕ)) (rest : List ℕ) → IsAtEnd left → left ≡ Some rest → rest ≡ []
+end_told None rest k e = cc
+end_told (Some xs) rest k e = cc
+
+-- a read behind the held bytes
+pub fills_at : (held before after : List ℕ) (at n : ℕ) (left left' : Option (List ℕ))
+    → take at before ≡ held → take at after ≡ take at before → at + n ≤ length after → at < length after
+    → Consumes left left' (take n (drop at after)) → (n ≡ 0 → 0 < length (drop at after) → IsAtEnd left')
+    → Fills held left (take (at + n) after) left' n
+fills_at held before after at n left left' eh eb bound room c end =
+    let joined : take (at + n) after ≡ held ++ take n (drop at after) = take-add at n after ∙ ap (λ x. x ++ take n (drop at after)) (eb ∙ eh) in
+    let fits : n ≤ length (drop at after) = omega (arith, length-drop at after) in
+    record {
+      grown = (take n (drop at after), joined, length-take-le n (drop at after) fits);
+      same = λ b s.
+          let t = consumes_told left left' (take n (drop at after)) s.0 c s.1 in
+          (t.0, t.1, s.2 ∙ ap (λ x. held ++ x) t.2 ∙ sym (append_assoc held (take n (drop at after)) t.0) ∙ ap (λ x. x ++ t.0) (sym joined));
+      end = λ none rest told. end_told left' rest (end none (omega (arith, length-drop at after))) told;
+    }
+
+-- nothing happened
+pub kept_stream : (held held' : List ℕ) (left left' : Option (List ℕ)) → held' ≡ held → Keeps left left'
+    → KeepsStream held left held' left'
+kept_stream held held' left left' e k b s = (s.0, keeps_told left left' s.0 k s.1, s.2 ∙ ap (λ x. x ++ s.0) (sym e))
+
+pub empty_of : (xs : List ℕ) → length xs ≡ 0 → xs ≡ []
+empty_of [] e = refl
+empty_of (x ∷ xs) e = absurd (omega arith)
+
+-- at the source's end the stream is what is held, and nothing came
+pub all_held : (held held' b : List ℕ) (left left' : Option (List ℕ)) (n : ℕ) → Fills held left held' left' n → n ≡ 0
+    → IsStream held' left' b → (b ≡ held) × (b ≡ held')
+all_held held held' b left left' n fills none s =
+    let no_rest = fills.end none s.0 s.1 in
+    let no_bytes = empty_of fills.grown.0 (fills.grown.2 ∙ none) in
+    let same : b ≡ held' = s.2 ∙ ap (λ x. held' ++ x) no_rest ∙ append-nil held' in
+    (same ∙ fills.grown.1 ∙ ap (λ x. held ++ x) no_bytes ∙ append-nil held, same)
+
+-- a first part of a list that is no longer than another first part is one of that
+pub part_of_part : (xs ys p q : List ℕ) → xs ++ ys ≡ p ++ q → length p ≤ length xs → xs ≡ p ++ drop (length p) xs
+part_of_part xs ys p q e h =
+    let t : take (length p) xs ≡ p = sym (take-append-le (length p) xs ys h) ∙ ap (take (length p)) e ∙ take_at p q (length p) refl in
+    sym (take-append-drop (length p) xs) ∙ ap (λ z. z ++ drop (length p) xs) t
+
+-- the first part of the stream was taken
+pub took_part : (body held b rest : List ℕ) (count : ℕ) → length body ≡ count → b ≡ (body ++ held) ++ rest
+    → (count ≤ length b) × (body ≡ take count b) × (drop count b ≡ held ++ rest)
+took_part body held b rest count size e =
+    let whole : b ≡ body ++ (held ++ rest) = e ∙ append_assoc body held rest in
+    let long = simp length-append at (ap length whole) in
+    (omega arith, sym (take_at body (held ++ rest) count size) ∙ ap (take count) (sym whole), ap (drop count) whole ∙ drop_at body (held ++ rest) count size)
+
+-- the stream is what came and then what the buffer holds: what came is the whole body
+pub whole_held : (body held held' b : List ℕ) (left : Option (List ℕ)) (count : ℕ) → body ++ held' ≡ held → length body ≡ count
+    → IsStream held left b → (count ≤ length b) × (body ≡ take count b) × IsStream held' left (drop count b)
+whole_held body held held' b left count e size s =
+    let t = took_part body held' b s.0 count size (s.2 ∙ ap (λ (x : List ℕ). x ++ s.0) (sym e)) in
+    (t.0, t.1, (s.0, s.1, t.2))
+
+-- a read behind the held bytes answered none: the stream ends with them
+pub ends_short : (held held' b : List ℕ) (left left' : Option (List ℕ)) (count : ℕ) → Fills held left held' left' 0
+    → IsStream held left b → length held < count → length b < count
+ends_short held held' b left left' count fills s few =
+    let same = all_held held held' b left left' 0 fills refl (fills.same b s) in
+    omega (arith, ap length same.0)
+
+-- all bytes that are asked for came
+pub all_came : (body b : List ℕ) (left : Option (List ℕ)) (count : ℕ) → length body ≡ count → IsStream body left b
+    → (count ≤ length b) × (body ≡ take count b) × IsStream [] left (drop count b)
+all_came body b left count size s = whole_held body body [] b left count (append-nil body) size s

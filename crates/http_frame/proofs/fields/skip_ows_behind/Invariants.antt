@@ -1,0 +1,10 @@
+use Rattle.std.proofs.Common.{◌≡◌, length}
+use Rattle.std.specs.Prelude.{reverse}
+use Rattle.httparse.specs.Grammar.{skip_ows}
+use Rattle.http_frame.proofs.fields.skip_ows_behind.Given as goal
+
+abbrev pub decreases-loop-rest : goal.decreases-loop-rest
+decreases-loop-rest l = length l.rest
+
+abbrev pub invariant-loop-rest : goal.invariant-loop-rest
+invariant-loop-rest l = skip_ows (reverse l.rest) ≡ skip_ows (reverse l.bytes)

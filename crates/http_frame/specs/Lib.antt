@@ -1,0 +1,11 @@
+pub mod Answers
+pub mod Bodies
+pub mod Faults
+pub mod Fields
+pub mod Frames
+pub mod Heads
+pub mod Laws
+pub mod Messages
+pub mod State
+pub mod Streams
+pub mod Wire

@@ -1,0 +1,192 @@
+//! Bodies of declared length.
+ghost use Rattle.std.specs.Prelude.{◌≡◌, ℕ, ◌+◌, ◌-◌, ◌*◌, ◌≤◌, ◌<◌, List, [], ◌++◌, length, take, count_by, find, IfOk, IsOk, OnOk, option_copied};
+ghost use Rattle.std.specs.List.{list_all};
+ghost use Rattle.std.specs.Char.{is_ascii_digit};
+ghost use Rattle.http_frame.specs.Bodies.{is_numeral, decimal_value, length_value, length_in, declared, TakesBody};
+ghost use Rattle.http_frame.specs.Faults.{FaultsFor, SoundFor};
+ghost use Rattle.http_frame.specs.Streams.{IsStream, Fills};
+ghost use Rattle.rdf_io.specs.Causes.{HasCause};
+
+use crate::buffer::{Buffer, read_behind};
+use crate::fault::FrameFault;
+use crate::fields::{Fields, Octets, count_named, find_named};
+use rdf_io::{Failed, Source};
+use std::alloc::{AllocError, Global};
+
+/// The most bytes of a body.
+pub const MOST_BODY: usize = 16_777_216;
+
+/// The room that is made at first for a body that has not come yet. A peer that only announces a body
+/// costs no more than this.
+const FIRST_ROOM: usize = 16_384;
+
+/// The number with one more digit, until it is over the most.
+fn with_digit(number: usize, digit: u8) -> usize
+    requires { number ≤ 16777216 * 10 + 255 }
+    ensures within { number ≤ 16777216 → result ≡ number * 10 + (digit - 48) }
+    ensures over { 16777216 < number → result ≡ number }
+    ensures room { result ≤ 16777216 * 10 + 255 }
+{
+    if number <= MOST_BODY {
+        number * 10 + (digit as usize).saturating_sub(48)
+    } else {
+        number
+    }
+}
+
+fn number_of(value: &[u8]) -> usize
+    ensures within { result ≤ 16777216 → result ≡ decimal_value value.now }
+    ensures over { 16777216 < result → 16777216 < decimal_value value.now }
+{
+    let mut number = 0;
+    for digit in value {
+        number = with_digit(number, *digit);
+    }
+    number
+}
+
+fn all_digits(value: &[u8]) -> bool
+    ensures { result ≡ list_all is_ascii_digit value.now }
+{
+    value.iter().all(|digit| digit.is_ascii_digit())
+}
+
+fn is_numeral(value: &[u8]) -> bool
+    ensures { result ≡ is_numeral value.now }
+{
+    value.len() > 0 && all_digits(value)
+}
+
+fn length_value(value: &[u8]) -> Option<usize>
+    ensures { result ≡ length_value value.now }
+{
+    if !is_numeral(value) {
+        return None;
+    }
+    let number = number_of(value);
+    if number <= MOST_BODY {
+        Some(number)
+    } else {
+        None
+    }
+}
+
+fn length_in(field: Option<&(Octets, Octets)>) -> Option<usize>
+    ensures { result ≡ length_in (option_copied field.entry) }
+{
+    match field {
+        None => Some(0),
+        Some(field) => length_value(field.1.as_slice()),
+    }
+}
+
+/// The length of the body that the fields declare, where they declare one that is read.
+pub fn declared(fields: &Fields) -> Option<usize>
+    ensures { result ≡ declared fields.now }
+{
+    let fields = fields.as_slice();
+    if count_named(fields, b"transfer-encoding") > 0 {
+        return None;
+    }
+    if count_named(fields, b"content-length") > 1 {
+        return None;
+    }
+    length_in(find_named(fields, b"content-length"))
+}
+
+/// Cuts the first bytes of a body off those that are held.
+fn held_part(alloc: Global, buffer: &mut Buffer, count: usize) -> Result<Vec<u8>, AllocError>
+    ensures same { IfOk result (λ body. body.items ++ buffer.new ≡ buffer.old) }
+    ensures most { IfOk result (λ body. length body.items ≤ count) }
+    ensures all { IfOk result (λ body. length body.items < count → buffer.new ≡ []) }
+{
+    let held = buffer.as_slice();
+    let part = count.min(held.len());
+    let body = held[..part].to_vec(alloc)?;
+    buffer.consume(part);
+    Ok(body)
+}
+
+/// Makes room behind the first `at` bytes of a body: as much again, until the body has its length.
+fn make_room(body: &mut Vec<u8>, at: usize, count: usize) -> Result<(), AllocError>
+    requires came { at ≤ length body.old.items }
+    requires short { at < count }
+    requires most { length body.old.items ≤ count }
+    ensures came { OnOk result (take at body.new.items ≡ take at body.old.items) }
+    ensures room { OnOk result (at < length body.new.items) }
+    ensures most { OnOk result (length body.new.items ≤ count) }
+{
+    if at < body.len() {
+        return Ok(());
+    }
+    let more = at.max(FIRST_ROOM).min(count - at);
+    body.resize(at + more, 0)
+}
+
+/// Reads into a body behind its first `at` bytes.
+fn read_into<S: Source>(source: &mut S, body: &mut Vec<u8>, at: usize) -> Result<usize, Failed>
+    requires { at < length body.old.items }
+    ensures ok { IfOk result (λ n. Fills (take at body.old.items) (S.left source.old) (take (at + n) body.new.items) (S.left source.new) n) }
+    ensures bound { IfOk result (λ n. at + n ≤ length body.new.items) }
+    ensures len { length body.new.items ≡ length body.old.items }
+    ensures cause { HasCause (S.faults source.old) (S.faults source.new) result }
+    ensures sound { S.sound source.old → IsOk result × S.sound source.new }
+{
+    read_behind(source, body, at)
+}
+
+/// Reads the rest of a body into its place.
+fn read_rest<S: Source>(
+    source: &mut S,
+    mut body: Vec<u8>,
+    count: usize,
+) -> Result<Octets, FrameFault>
+    requires { length body.items ≤ count }
+    ensures body { (b : List ℕ) → IsStream body.items (S.left source.old) b
+        → TakesBody count b [] (S.left source.new) result }
+    ensures cause { FaultsFor (S.faults source.old) (S.faults source.new) result }
+    ensures sound { SoundFor (S.sound source.old) (S.sound source.new) result }
+{
+    let mut at = body.len();
+    'read: while at < count {
+        match make_room(&mut body, at, count) {
+            Ok(()) => {}
+            Err(_) => return Err(FrameFault::Memory),
+        }
+        match read_into(source, &mut body, at) {
+            Ok(more) => {
+                if more == 0 {
+                    return Err(FrameFault::Truncated);
+                }
+                at += more;
+            }
+            Err(_) => return Err(FrameFault::ReadFault),
+        }
+    }
+    Ok(Octets::from_vec(body))
+}
+
+/// Takes a body of `count` bytes off the stream.
+pub fn take_body<S: Source>(
+    alloc: Global,
+    buffer: &mut Buffer,
+    source: &mut S,
+    count: usize,
+) -> Result<Octets, FrameFault>
+    ensures body { (b : List ℕ) → IsStream buffer.old (S.left source.old) b
+        → TakesBody count b buffer.new (S.left source.new) result }
+    ensures cause { FaultsFor (S.faults source.old) (S.faults source.new) result }
+    ensures sound { SoundFor (S.sound source.old) (S.sound source.new) result }
+{
+    let body = match held_part(alloc, buffer, count) {
+        Ok(body) => body,
+        Err(_) => return Err(FrameFault::Memory),
+    };
+    if body.len() == count {
+        return Ok(Octets::from_vec(body));
+    }
+    match read_rest(source, body, count) {
+        Ok(body) => Ok(body),
+        Err(fault) => Err(fault),
+    }
+}

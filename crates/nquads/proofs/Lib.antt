@@ -1,0 +1,6 @@
+pub mod CutLaw
+pub mod DocumentLemmas
+pub mod Examples
+pub mod FeedLemmas
+pub mod LineLemmas
+pub mod WriteLemmas

@@ -1,0 +1,4 @@
+pub mod Documents
+pub mod Lines
+pub mod State
+pub mod Written

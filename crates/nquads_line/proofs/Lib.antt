@@ -1,0 +1,11 @@
+pub mod BodyLemmas
+pub mod Examples
+pub mod LabelLemmas
+pub mod LineLemmas
+pub mod ReadLemmas
+pub mod Steps
+pub mod TagLemmas
+pub mod TermLemmas
+pub mod ValidLemmas
+pub mod WriteLemmas
+pub mod WrittenLemmas

@@ -1,0 +1,91 @@
+ghost use Rattle.std.specs.Prelude.{◌≡◌, ◌≤◌, ◌||◌, ◌++◌, IfOk, length};
+ghost use Rattle.rdf_term.specs.Classes.{pn_chars_base, pn_chars_u, pn_chars, is_in, is_digit};
+ghost use Rattle.nquads_line.specs.Reading.{Gives, label_len, label_from, label_at};
+
+use crate::LineFault;
+use crate::space::after;
+use rdf_term::{Memory, Text};
+use std::alloc::Global;
+
+/// PN_CHARS_BASE.
+fn is_base(character: char) -> bool
+    ensures { result ≡ is_in pn_chars_base character }
+{
+    matches!(character,
+        'A'..='Z' | 'a'..='z' | '\u{C0}'..='\u{D6}' | '\u{D8}'..='\u{F6}' | '\u{F8}'..='\u{2FF}'
+        | '\u{370}'..='\u{37D}' | '\u{37F}'..='\u{1FFF}' | '\u{200C}'..='\u{200D}'
+        | '\u{2070}'..='\u{218F}' | '\u{2C00}'..='\u{2FEF}' | '\u{3001}'..='\u{D7FF}'
+        | '\u{F900}'..='\u{FDCF}' | '\u{FDF0}'..='\u{FFFD}' | '\u{10000}'..='\u{EFFFF}')
+}
+
+/// PN_CHARS_U or a digit, with which a label begins.
+fn begins_label(character: char) -> bool
+    ensures { result ≡ (pn_chars_u character || is_digit character) }
+{
+    is_base(character) || matches!(character, '_' | ':' | '0'..='9')
+}
+
+/// PN_CHARS.
+fn continues_label(character: char) -> bool
+    ensures { result ≡ pn_chars character }
+{
+    begins_label(character)
+        || matches!(character, '-' | '\u{B7}' | '\u{300}'..='\u{36F}' | '\u{203F}'..='\u{2040}')
+}
+
+/// How many characters continue a label, of which the last is no dot.
+#[tactic(auto, using(crate::proofs::LabelLemmas::counting))]
+fn label_len(chars: &[char]) -> usize
+    ensures value { result ≡ label_len chars.now }
+    ensures within { result ≤ length chars.now }
+{
+    let mut count = 0;
+    for (i, character) in chars.iter().enumerate() {
+        if continues_label(*character) {
+            count = i + 1;
+            continue;
+        }
+        if *character != '.' {
+            return count;
+        }
+    }
+    count
+}
+
+/// The text with these characters behind it.
+pub fn extended(mut text: Text, chars: &[char]) -> Result<Text, Memory>
+    ensures { IfOk result (λ it. it ≡ text ++ chars.now) }
+{
+    for character in chars {
+        text.push(*character)?;
+    }
+    Ok(text)
+}
+
+/// A label without `_:`, and what stands after it.
+fn label_from(alloc: Global, chars: &[char]) -> Result<(Text, &[char]), LineFault>
+    ensures { Gives (λ x. (x.0, x.1.now)) result (label_from chars.now) }
+{
+    match chars {
+        [] => Err(LineFault::Bad),
+        [first, rest @ ..] => {
+            if !begins_label(*first) {
+                return Err(LineFault::Bad);
+            }
+            let mut text = Text::new(alloc);
+            text.push(*first)?;
+            let count = label_len(rest);
+            Ok((extended(text, &rest[..count])?, &rest[count..]))
+        }
+    }
+}
+
+/// BLANK_NODE_LABEL, and what stands after it.
+#[tactic(auto, unfolding(crate::specs::Reading::label_at))]
+pub fn label(alloc: Global, chars: &[char]) -> Result<(Text, &[char]), LineFault>
+    ensures { Gives (λ x. (x.0, x.1.now)) result (label_at chars.now) }
+{
+    let colon = after(chars, '_')?;
+    let name = after(colon, ':')?;
+    label_from(alloc, name)
+}

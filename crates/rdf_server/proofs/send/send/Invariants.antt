@@ -1,0 +1,12 @@
+use Rattle.std.proofs.Common.{◌≡◌, ◌-◌, ◌≤◌, ◌++◌, List, ℕ, length, take, Some}
+use Rattle.rdf_server.proofs.send.send.Given as goal
+
+abbrev pub decreases-loop-at : goal.decreases-loop-at
+decreases-loop-at g l = length l.text - l.at
+
+abbrev pub invariant-loop-at : goal.invariant-loop-at
+invariant-loop-at g l = record {
+  sent : (t : List ℕ) → g.K.Sink.taken l.initial.sink ≡ Some t → g.K.Sink.taken l.sink ≡ Some (t ++ take l.at l.text);
+  room : l.at ≤ length l.text;
+  faults : g.K.Sink.faults l.sink ≡ g.K.Sink.faults l.initial.sink;
+}

@@ -1,0 +1,68 @@
+-- What a request is answered, and what the repository then holds.
+use Rattle.std.specs.Prelude.{◌≡◌, ℕ, Bool, true, false, List, [], ◌∷◌, ◌++◌, ◌⊎◌, codes, decimal, encode_utf8_all}
+use Rattle.rdf_term.specs.Statement.{Statement}
+use Rattle.rdf_term.specs.Sets.{in_order}
+use Rattle.nquads_line.specs.declared.kind.Kind.TheVariants.{Quads}
+use Rattle.nquads.specs.declared.fault.DataFault.{DataFault}
+use Rattle.nquads.specs.declared.fault.DataFault.TheVariants.{BadLine, TooLong, Memory}
+use Rattle.nquads.specs.Documents.{IsDocument, FirstBad}
+use Rattle.nquads.specs.Written.{document_text}
+use Rattle.http_frame.specs.Messages.{SeenRequest, SeenResponse}
+use Rattle.http_frame.specs.Wire.{wire}
+use Rattle.http_frame.specs.declared.fault.FrameFault.{FrameFault}
+use Rattle.http_frame.specs.declared.fault.FrameFault.TheVariants.{BadHead, BadBody, Truncated, ReadFault, Memory as FrameMemory}
+use Rattle.rdf_server.specs.declared.action.Action.{Action}
+use Rattle.rdf_server.specs.declared.action.Action.TheVariants.{Add, List as ListQuads, Unknown}
+use Rattle.rdf_server.specs.Requests.{is_text, action_of}
+
+-- a body of this media type
+abbrev pub with_type : ℕ → List ℕ → List ℕ → SeenResponse
+with_type status media_type body = record { status = status; fields = (codes "Content-Type", media_type) ∷ []; body = body }
+
+-- a refusal says its cause in one line of plain text
+abbrev pub refused_with : ℕ → List ℕ → SeenResponse
+refused_with status text = with_type status (codes "text/plain;charset=UTF-8") text
+
+abbrev pub no_content : SeenResponse
+no_content = record { status = 204; fields = []; body = [] }
+
+-- all quads as canonical lines, in UTF-8
+abbrev pub listing : List Statement → SeenResponse
+listing quads = with_type 200 (codes "application/n-quads") (encode_utf8_all (document_text Quads quads))
+
+-- the cause why a document is refused
+abbrev pub line_text : DataFault → List ℕ
+line_text (BadLine n) = codes "bad line " ++ decimal n
+line_text (TooLong n) = codes "long line " ++ decimal n
+line_text Memory = []
+
+-- the response to this action with this body where the repository holds quads, and what it holds after it
+abbrev pub IsOutcome : Action → List ℕ → List Statement → SeenResponse → List Statement → Type 0
+-- a document is added whole; one with a bad line adds nothing
+IsOutcome (Add kind) body quads response quads' =
+    ((new : List Statement) × IsDocument kind body new × (response ≡ no_content) × (quads' ≡ in_order (quads ++ new)))
+    ⊎ ((fault : DataFault) × FirstBad kind body fault × (response ≡ refused_with 400 (line_text fault)) × (quads' ≡ quads))
+IsOutcome ListQuads body quads response quads' = (response ≡ listing quads) × (quads' ≡ quads)
+IsOutcome Unknown body quads response quads' = (response ≡ refused_with 404 (codes "no such resource")) × (quads' ≡ quads)
+
+-- the bytes of the response to a request
+abbrev pub response_bytes : SeenRequest → SeenResponse → List ℕ
+response_bytes r response = wire response r.head.closes (is_text r.head.method (codes "HEAD"))
+
+-- the request is answered with these bytes, where the repository with this target holds quads, and then it holds quads'
+pub record IsAnswer (target : List ℕ) (quads : List Statement) (r : SeenRequest) (text : List ℕ) (quads' : List Statement) : Type 0 where
+  pub response : SeenResponse
+  pub outcome : IsOutcome (action_of target r.head) r.body quads response quads'
+  pub written : text ≡ response_bytes r response
+
+-- the cause why a frame is refused
+abbrev pub frame_text : FrameFault → List ℕ
+frame_text BadHead = codes "bad head"
+frame_text BadBody = codes "bad body"
+frame_text Truncated = codes "truncated body"
+frame_text ReadFault = []
+frame_text FrameMemory = []
+
+-- the bytes of the response to a refused frame, after which the connection ends
+unfoldable pub refusal : FrameFault → List ℕ
+refusal fault = wire (refused_with 400 (frame_text fault)) true false

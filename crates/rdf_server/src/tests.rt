@@ -1,0 +1,251 @@
+//! What no clause says: that sessions find memory, and the worked exchanges, byte for byte.
+use crate::{run_stdio, sessions_are_determined, sessions_join};
+use rdf_io::{MemSink, MemSource};
+use rdf_term::{Bytes, Memory, Text};
+use std::alloc::Global;
+
+const ADD: &str =
+    "POST /rdf4j-server/repositories/r/statements HTTP/1.1\r\nHost: h\r\nContent-Type: application/n-triples\r\n";
+
+const LIST: &str = "GET /rdf4j-server/repositories/r/statements HTTP/1.1\r\nHost: h\r\n\r\n";
+
+const LINE: &str = "<http://e/s> <http://e/p> <http://e/o> .\n";
+
+const NO_CONTENT: &str = "HTTP/1.1 204 No Content\r\n\r\n";
+
+const EMPTY_LIST: &str =
+    "HTTP/1.1 200 OK\r\nContent-Type: application/n-quads\r\nContent-Length: 0\r\n\r\n";
+
+/// What a run answered: its status and the bytes that the sink took.
+#[derive(Drop)]
+struct Ran {
+    status: u8,
+    taken: String,
+}
+
+/// How a run's source and sink behave.
+#[derive(Clone, Copy)]
+struct Outside {
+    /// The most bytes of each read, or 0 for all that fit.
+    cut: usize,
+    read_fails: Option<u64>,
+    write_fails: Option<u64>,
+}
+
+const CALM: Outside = Outside {
+    cut: 0,
+    read_fails: None,
+    write_fails: None,
+};
+
+fn listed(alloc: Global, number: Option<u64>) -> Result<Vec<u64>, Memory> {
+    let mut numbers = Vec::new(alloc);
+    if let Some(number) = number {
+        numbers.push(number)?;
+    }
+    Ok(numbers)
+}
+
+fn run(alloc: Global, words: &[&str], input: &str, outside: Outside) -> Result<Ran, Memory> {
+    let mut texts = Vec::new(alloc);
+    for word in words {
+        texts.push(Text::from_chars(alloc, word)?)?;
+    }
+    let mut bytes = Bytes::new(alloc);
+    bytes.append(input.as_bytes())?;
+    let cuts = if outside.cut == 0 {
+        Vec::new(alloc)
+    } else {
+        vec![in alloc; outside.cut; input.len()]?
+    };
+    let mut source = MemSource::new(bytes, cuts, listed(alloc, outside.read_fails)?);
+    let mut sink = MemSink::new(alloc, listed(alloc, outside.write_fails)?);
+    let status = run_stdio(alloc, &texts, &mut source, &mut sink);
+    Ok(Ran {
+        status,
+        taken: String::from_utf8_lossy(alloc, sink.taken())?,
+    })
+}
+
+/// A POST of a document.
+fn post(alloc: Global, document: &str) -> Result<String, Memory> {
+    let length = document.len();
+    Ok(format!(in alloc; "{ADD}Content-Length: {length}\r\n\r\n{document}")?)
+}
+
+/// A refusal of a request, after which the session goes on.
+fn refused(alloc: Global, status: &str, close: &str, text: &str) -> Result<String, Memory> {
+    let length = text.len();
+    Ok(format!(in alloc;
+        "HTTP/1.1 {status}\r\nContent-Type: text/plain;charset=UTF-8\r\nContent-Length: {length}\r\n{close}\r\n{text}"
+    )?)
+}
+
+#[test]
+fn posted_lines_are_listed_however_the_bytes_are_cut(rt: HostRuntime) -> Result<(), Memory> {
+    let alloc = rt.alloc();
+    sessions_are_determined();
+    sessions_join();
+    let first = post(alloc, LINE)?;
+    let second = post(
+        alloc,
+        "<http://e/a> <http://e/p> <http://e/o> .\r\n\n<http://e/s> <http://e/p> <http://e/o> .",
+    )?;
+    let input = format!(in alloc; "{first}{LIST}{second}{LIST}")?;
+    let want = format!(in alloc;
+        "{NO_CONTENT}HTTP/1.1 200 OK\r\nContent-Type: application/n-quads\r\nContent-Length: 41\r\n\r\n{LINE}{NO_CONTENT}HTTP/1.1 200 OK\r\nContent-Type: application/n-quads\r\nContent-Length: 82\r\n\r\n<http://e/a> <http://e/p> <http://e/o> .\n{LINE}"
+    )?;
+    for cut in [0, 1, 2, 7] {
+        let ran = run(
+            alloc,
+            &["stdio", "r"],
+            input.as_str(),
+            Outside { cut, ..CALM },
+        )?;
+        assert_eq!(rt; ran.status, 0);
+        assert!(rt; ran.taken.as_str() == want.as_str(), "cut {cut}");
+    }
+    let empty = run(alloc, &["stdio", "r"], "", CALM)?;
+    assert_eq!(rt; empty.status, 0);
+    assert_eq!(rt; empty.taken.len(), 0);
+    Ok(())
+}
+
+#[test]
+fn a_bad_line_adds_nothing(rt: HostRuntime) -> Result<(), Memory> {
+    let alloc = rt.alloc();
+    let bad = post(alloc, "<http://e/s> <http://e/p> <http://e/o> .\nx\n")?;
+    let input = format!(in alloc; "{bad}{LIST}GET /x HTTP/1.1\r\nHost: h\r\n\r\n{LIST}")?;
+    let line = refused(alloc, "400 Bad Request", "", "bad line 2")?;
+    let gone = refused(alloc, "404 Not Found", "", "no such resource")?;
+    let want = format!(in alloc; "{line}{EMPTY_LIST}{gone}{EMPTY_LIST}")?;
+    let ran = run(alloc, &["stdio", "r"], input.as_str(), CALM)?;
+    assert_eq!(rt; ran.status, 0);
+    assert!(rt; ran.taken.as_str() == want.as_str());
+    Ok(())
+}
+
+#[test]
+fn other_requests_are_no_resource(rt: HostRuntime) -> Result<(), Memory> {
+    let alloc = rt.alloc();
+    let gone = refused(alloc, "404 Not Found", "", "no such resource")?;
+    for head in [
+        "GET /rdf4j-server/repositories/other/statements HTTP/1.1",
+        "GET /rdf4j-server/repositories/r/statements?x=y HTTP/1.1",
+        "get /rdf4j-server/repositories/r/statements HTTP/1.1",
+        "PUT /rdf4j-server/repositories/r/statements HTTP/1.1",
+        "POST /rdf4j-server/repositories/r/statements HTTP/1.1",
+        "POST /rdf4j-server/repositories/r/statements HTTP/1.1\r\nContent-Type: text/turtle",
+        "POST /rdf4j-server/repositories/r/statements HTTP/1.1\r\nContent-Type: text/plain\r\nContent-Type: text/plain",
+    ] {
+        let input = format!(in alloc; "{head}\r\n\r\n")?;
+        let ran = run(alloc, &["stdio", "r"], input.as_str(), CALM)?;
+        assert_eq!(rt; ran.status, 0);
+        assert!(rt; ran.taken.as_str() == gone.as_str(), "{head}");
+    }
+    let input = "HEAD /x HTTP/1.0\r\n\r\nGET /x HTTP/1.1\r\n\r\n";
+    let ran = run(alloc, &["stdio", "r"], input, CALM)?;
+    assert_eq!(rt; ran.status, 0);
+    assert!(rt;
+        ran.taken.as_str()
+            == "HTTP/1.1 404 Not Found\r\nContent-Type: text/plain;charset=UTF-8\r\nConnection: close\r\n\r\n"
+    );
+    Ok(())
+}
+
+#[test]
+fn documents_have_four_media_types(rt: HostRuntime) -> Result<(), Memory> {
+    let alloc = rt.alloc();
+    for media_type in [
+        "application/n-triples",
+        "TEXT/Plain; charset=utf-8",
+        "application/n-quads ; x=y",
+        "text/x-nquads",
+    ] {
+        let length = LINE.len();
+        let input = format!(in alloc;
+            "POST /rdf4j-server/repositories/r/statements HTTP/1.1\r\nContent-Type: {media_type}\r\nContent-Length: {length}\r\n\r\n{LINE}"
+        )?;
+        let ran = run(alloc, &["stdio", "r"], input.as_str(), CALM)?;
+        assert!(rt; ran.taken.as_str() == NO_CONTENT, "{media_type}");
+    }
+    Ok(())
+}
+
+#[test]
+fn refused_frames_end_the_session(rt: HostRuntime) -> Result<(), Memory> {
+    let alloc = rt.alloc();
+    for (input, text) in [
+        ("GET / HTTP/1.1\r\nHost: h\r\n", "bad head"),
+        ("\u{1}", "bad head"),
+        ("GET / HTTP/1.1\r\nTransfer-Encoding: x\r\n\r\n", "bad body"),
+        ("GET / HTTP/1.1\r\nContent-Length: -1\r\n\r\n", "bad body"),
+        (
+            "GET / HTTP/1.1\r\nContent-Length: 3\r\n\r\nab",
+            "truncated body",
+        ),
+    ] {
+        let want = refused(alloc, "400 Bad Request", "Connection: close\r\n", text)?;
+        let ran = run(alloc, &["stdio", "r"], input, CALM)?;
+        assert_eq!(rt; ran.status, 1);
+        assert!(rt; ran.taken.as_str() == want.as_str(), "{text}");
+    }
+    Ok(())
+}
+
+#[test]
+fn faults_leave_a_first_part(rt: HostRuntime) -> Result<(), Memory> {
+    let alloc = rt.alloc();
+    let first = post(alloc, LINE)?;
+    let input = format!(in alloc; "{first}{LIST}{LIST}")?;
+    let whole = run(alloc, &["stdio", "r"], input.as_str(), CALM)?;
+    for call in 0..7u64 {
+        let outside = Outside {
+            write_fails: Some(call),
+            ..CALM
+        };
+        let ran = run(alloc, &["stdio", "r"], input.as_str(), outside)?;
+        assert_eq!(rt; ran.status, if call < 6 { 3 } else { 0 }, "call {call}");
+        assert!(rt; whole.taken.as_str().starts_with(ran.taken.as_str()));
+    }
+    for call in 0..5u64 {
+        let outside = Outside {
+            cut: 100,
+            read_fails: Some(call),
+            ..CALM
+        };
+        let ran = run(alloc, &["stdio", "r"], input.as_str(), outside)?;
+        assert_eq!(rt; ran.status, 2, "call {call}");
+        assert!(rt; whole.taken.as_str().starts_with(ran.taken.as_str()));
+    }
+    Ok(())
+}
+
+#[test]
+fn other_words_read_nothing(rt: HostRuntime) -> Result<(), Memory> {
+    let alloc = rt.alloc();
+    for words in [
+        [].as_slice(),
+        ["stdio"].as_slice(),
+        ["serve", "r"].as_slice(),
+        ["stdio", "r", "s"].as_slice(),
+        ["stdio", ""].as_slice(),
+        ["stdio", "_r"].as_slice(),
+        ["stdio", "r/s"].as_slice(),
+        [
+            "stdio",
+            "r2345678901234567890123456789012345678901234567890123456789012345",
+        ]
+        .as_slice(),
+    ] {
+        let ran = run(alloc, words, LIST, CALM)?;
+        assert_eq!(rt; ran.status, 5);
+        assert_eq!(rt; ran.taken.len(), 0);
+    }
+    let longest = [
+        "stdio",
+        "R-34567890_234567890123456789012345678901234567890123456789012-4",
+    ];
+    assert_eq!(rt; run(alloc, longest.as_slice(), LIST, CALM)?.status, 0);
+    Ok(())
+}
