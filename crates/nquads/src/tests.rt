@@ -32,7 +32,7 @@ fn documents_read_alike_in_any_pieces(rt: HostRuntime) -> Result<(), Memory> {
         (b"\r\n\n\rx", Err(DataFault::BadLine(4))),
         (b"<s> <a:p> <a:o> .", Err(DataFault::BadLine(1))),
         (b"<a:s><a:p><a:o>.", Ok(1)),
-        (b"<a:s> <a:p> <a:o> <a:g> .", Err(DataFault::BadLine(1))),
+        (b"<a:s> <a:p> <a:o> <a:g> .", Ok(1)),
         (b"\n<a:s> <a:p> <a:\xff> .", Err(DataFault::BadLine(2))),
         (b"\n#\n_:a <a:p> \"b\"@en . # c", Ok(1)),
     ];
