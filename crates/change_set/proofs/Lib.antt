@@ -1,0 +1,4 @@
+pub mod Contents
+pub mod Effects
+pub mod Examples
+pub mod Steps

@@ -1,0 +1,5 @@
+pub mod DigestLemmas
+pub mod KeyLemmas
+pub mod LetterLemmas
+pub mod ListLemmas
+pub mod SetsLemmas

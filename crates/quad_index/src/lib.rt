@@ -1,0 +1,22 @@
+//! A set of quads that answers any pattern by the order that fits it best.
+//!
+//! An [`Index`] keeps its quads in term order and in one to six further orders. Contracts see it as
+//! its set of quads, a strictly ascending list, and its list of orders.
+#![tactic(auto)]
+
+mod digest;
+mod index;
+mod key;
+mod letter;
+mod order;
+mod ordered;
+mod sets;
+mod terms;
+#[cfg(test)]
+mod tests;
+
+pub use index::Index;
+pub use order::Order;
+
+/// Distinct orders of an index.
+pub type Orders = rdf_term::Distinct<Order>;
