@@ -7,7 +7,6 @@ ghost use Rattle.change_set.specs.declared.change.Change.TheVariants.{RemoveMatc
 ghost use Rattle.change_set.specs.Content.{added, last_effect, named_quads, SameChanges};
 ghost use Rattle.change_set.specs.Kept.{marked, marked_entry};
 
-use crate::change::copy_pattern;
 use crate::effect::Mark;
 use crate::{Change, Effect};
 use rdf_term::{Duplicate, Memory, Pattern, Quad, Quads, Scan};
@@ -67,6 +66,17 @@ impl ChangeSet {
         }
     }
 
+    /// The set that stands for a list of changes.
+    pub fn from_changes(alloc: Global, changes: &[Change]) -> Result<ChangeSet, Memory>
+        ensures { IfOk result (λ set. SameChanges set changes.now) }
+    {
+        let mut set = ChangeSet::new(alloc);
+        for change in changes {
+            set.push(change)?;
+        }
+        Ok(set)
+    }
+
     /// Adds a change at the end of the list. Without memory the set stays as it was.
     pub fn push(&mut self, change: &Change) -> Result<(), Memory>
         ensures ok { OnOk result (SameChanges self.new (self.old ++ change.now ∷ [])) }
@@ -92,7 +102,7 @@ impl ChangeSet {
         ensures ok { OnOk result (SameChanges self.new (self.old ++ RemoveMatching pattern.now ∷ [])) }
         ensures memory { OnErr result (self.new ≡ self.old) }
     {
-        self.patterns.push(copy_pattern(pattern, self.alloc)?)?;
+        self.patterns.push(pattern.copy(self.alloc)?)?;
         self.named.retain(|quad, mark| {
             if pattern.matches(quad) {
                 *mark = Mark::Removes;

@@ -8,7 +8,7 @@ use Rattle.nquads_line.specs.declared.kind.Kind.TheVariants.{Triples, Quads}
 use Rattle.nquads.specs.Lines.{lines_of}
 use Rattle.nquads_line.specs.Grammar.{IsLine}
 use Rattle.nquads.specs.Documents.{IsDocument}
-use Rattle.nquads.specs.Written.{document_text}
+use Rattle.nquads.specs.Written.{document_text, read_again}
 
 -- CR LF, CR and LF each end one line
 cut_all : lines_of (codes "a\r\nb\rc\n\nd") ≡ codes "a" ∷ codes "b" ∷ codes "c" ∷ [] ∷ codes "d" ∷ []
@@ -35,3 +35,8 @@ quads_written = refl
 
 triples_written : document_text Triples (in_graph Absent ∷ in_graph (Named (Blank (codes "g"))) ∷ []) ≡ codes "<a:s> <a:p> <a:o> .\n"
 triples_written = refl
+
+-- which is read as one triple
+triples_again : read_again Triples (in_graph Absent ∷ in_graph (Named (Blank (codes "g"))) ∷ []) ≡ in_graph Absent ∷ []
+unfolding lib.Utf8.encode
+triples_again = refl

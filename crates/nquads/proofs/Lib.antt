@@ -1,3 +1,4 @@
+pub mod AgainLemmas
 pub mod CutLaw
 pub mod DocumentLemmas
 pub mod Examples

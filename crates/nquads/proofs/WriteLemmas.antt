@@ -1,28 +1,24 @@
 -- What is appended to a buffer, in bytes.
-use Rattle.std.proofs.Common.{◌≡◌, ℕ, suc, zero, ◌+◌, ◌<◌, ◌≤◌, List, [], ◌∷◌, ◌++◌, Bool, true, false, ◌==◌, refl, ap, ◌∙◌, sym, subst, get_or, take, drop, map, cond, length, append_assoc, append-nil, encode_utf8, encode_utf8_all, codes, arith, inl, inr, if◌then◌else◌, length-append}
-use Rattle.std.specs.List.{flat_map, dedup, dedup_from, AllByRecursion}
+use Rattle.std.proofs.Common.{◌≡◌, ℕ, suc, zero, ◌+◌, ◌<◌, ◌≤◌, List, [], ◌∷◌, ◌++◌, Bool, true, false, refl, ap, ◌∙◌, sym, subst, get_or, take, drop, map, cond, length, append_assoc, append-nil, encode_utf8_all, codes, arith, length-append}
+use Rattle.std.specs.List.{flat_map, dedup, dedup_from}
 use Rattle.std.specs.Str.{IsAscii, bytes_eq}
 use Rattle.std.proofs.lemmas.List.Concat.{flat_map-append}
-use Rattle.std.proofs.lemmas.List.Elements.{recursion_from_All}
-use Rattle.std.proofs.lemmas.Bool.{cases_lt}
-use Rattle.std.proofs.lemmas.List.{get_or_default, take_more}
+use Rattle.std.proofs.lemmas.List.{take_more}
 use Rattle.std.specs.Prelude.{OnOk, OnErr}
 use Rattle.std.specs.declared.result.Result.{Result}
-use Rattle.std.specs.declared.result.Result.TheVariants.{Ok, Err}
 use Rattle.nquads_line.specs.declared.kind.Kind.TheVariants.{Triples}
 use Rattle.rdf_term.proofs.WritingLemmas.{then_appends, appends_of}
 use Rattle.rdf_term.specs.Writing.{Extends, Appends}
 use Rattle.nquads.specs.Written.{triple_parts, graph_part, document_text, NextTriple, IsNextTriple}
-use Rattle.std.proofs.lemmas.Bool.Decides.{nat_tests}
 use Rattle.std.proofs.lemmas.Slice.Eq.{bytes_eq-Decides}
 use Rattle.std.proofs.Math.Seq.{drop-append_seam}
 use Rattle.rdf_term.specs.declared.graph.Graph.{Graph}
 use Rattle.rdf_term.specs.declared.graph.Graph.TheVariants.{Absent, Named}
 use Rattle.rdf_term.specs.Statement.{Statement}
-use Rattle.std.proofs.lemmas.Str.{encodes_same, encodes-append, encodes-IsAscii, encode_ascii, inside_one}
-use Rattle.rdf_term.specs.Canonical.{escaped, quoted, term_text, graph_texts, canonical_line, canonical_triple}
+use Rattle.std.proofs.lemmas.Str.{encodes_same, encodes-append, encodes-IsAscii}
+use Rattle.rdf_term.specs.Canonical.{term_text, graph_texts, canonical_line, canonical_triple}
 
-one_ascii : (d : ℕ) → d < 128 → IsAscii (d ∷ [])
+pub one_ascii : (d : ℕ) → d < 128 → IsAscii (d ∷ [])
 one_ascii d h zero = h
 one_ascii d h (suc n) = omega arith
 
@@ -119,7 +115,7 @@ dedup-later (q ∷ qs) =
     ∙ sym (ap (λ b. cond b (later [] (map canonical_triple qs)) (canonical_triple q ∷ later (canonical_triple q) (map canonical_triple qs)))
     (ap (λ v. bytes_eq v []) (triple_line q) ∙ not_empty (triple_parts q) 46 (codes "\n")))
 
-same_test : (a b : Bool) → (a ≡ true → b ≡ true) → (b ≡ true → a ≡ true) → a ≡ b
+pub same_test : (a b : Bool) → (a ≡ true → b ≡ true) → (b ≡ true → a ≡ true) → a ≡ b
 same_test true b f g = sym (f refl)
 same_test false true f g = g refl
 same_test false false f g = refl

@@ -11,8 +11,8 @@ mod writer;
 
 pub use fault::DataFault;
 pub use laws::{
-    is_refused_or_read, lines_are_cut_at_ends, one_answer_to_a_piece, one_first_bad_line,
-    one_reading,
+    documents_read_again, is_refused_or_read, lines_are_cut_at_ends, one_answer_to_a_piece,
+    one_first_bad_line, one_reading,
 };
 pub use nquads_line::Kind;
 pub use reader::{LineReader, read_document};

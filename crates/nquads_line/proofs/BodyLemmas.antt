@@ -1,6 +1,6 @@
 -- What is read between two marks is what is written there.
-use Rattle.std.proofs.Common.{◌≡◌, ℕ, suc, zero, ◌+◌, List, [], ◌∷◌, ◌++◌, Bool, true, false, ◌==◌, ◌&&◌, refl, ap, ◌∙◌, sym, subst, drop, take, length, map, append_assoc, Option, Some, None, if◌then◌else◌, inl, inr}
-use Rattle.std.specs.List.{flat_map, list_all}
+use Rattle.std.proofs.Common.{◌≡◌, ℕ, suc, zero, ◌+◌, List, [], ◌∷◌, ◌++◌, true, false, ◌==◌, ◌&&◌, refl, ap, ◌∙◌, sym, subst, drop, take, length, map, append_assoc, Option, Some, None, if◌then◌else◌, inl, inr, arith}
+use Rattle.std.specs.List.{flat_map, list_all, prefix_len}
 use Rattle.std.proofs.lemmas.List.{take-append-drop}
 use Rattle.std.proofs.Math.Seq.{take-append_seam, drop-append_seam}
 use Rattle.nquads_line.specs.declared.quoted.Quoted.{Quoted}
@@ -8,8 +8,8 @@ use Rattle.nquads_line.specs.declared.quoted.Quoted.TheVariants.{Iri, Literal}
 use Rattle.nquads_line.specs.Written.{Piece, Raw, Short, Four, Eight, IsWritten, spelling, meaning, short_meaning, hex_value, is_hex, is_raw, is_short_escape, is_meant, is_piece, closing, is_hex_digit}
 use lib.Utf8.{scalar}
 use Rattle.nquads_line.specs.Reading.{with_front, hex_at, escape_at, if_meant, piece_at, after_piece, body_at}
-use Rattle.nquads_line.proofs.ReadLemmas.{body_skip}
-use Rattle.nquads_line.proofs.Steps.{chosen, take_then, take_else, both, split, equal, itself, unequal, after_ok, with_front_ok}
+use Rattle.nquads_line.proofs.ReadLemmas.{body_skip, front_front}
+use Rattle.nquads_line.proofs.Steps.{chosen, take_then, take_else, both, split, equal, itself, unequal, true_or_false, after_ok, with_front_ok}
 
 hex_ok : (count : ℕ) (cs : List ℕ) (x : ℕ × ℕ) → hex_at count cs ≡ Some x
     → (is_hex count (take count cs) ≡ true) × (x ≡ (hex_value (take count cs), count + 1))
@@ -165,6 +165,31 @@ piece_again form (Eight hex) more h =
     let parts = split (is_hex 8 hex) (is_meant form (hex_value hex)) h in
     slashed form (85 ∷ (hex ++ more)) (hex_value hex) 9 (hex_again 8 hex more parts.0) parts.1
     ∙ ap (λ l. with_front (hex_value hex ∷ []) (body_at form l 0)) (hex_dropped 8 hex more parts.0)
+
+-- characters that stand as they are in front
+
+front_none : (r : Option (List ℕ × List ℕ)) → with_front [] r ≡ r
+front_none None = refl
+front_none (Some x) = refl
+
+raw_some : (form : Quoted) (cs : List ℕ) (n : ℕ) → n ≡ prefix_len (is_raw form) cs
+    → with_front (take n cs) (body_at form (drop n cs) 0) ≡ body_at form cs 0
+raw_some form [] zero e = refl
+raw_some form [] (suc n) e = refl
+raw_some form (c ∷ cs) zero e = front_none (body_at form (c ∷ cs) 0)
+raw_some form (c ∷ cs) (suc n) e =
+    elim (true_or_false (is_raw form c)) [
+      | inl h ↦ (let k : suc n ≡ 1 + prefix_len (is_raw form) cs = e ∙ take_then (is_raw form c) (1 + prefix_len (is_raw form) cs) 0 h in
+          let m : n ≡ prefix_len (is_raw form) cs = omega arith in
+          sym (front_front (c ∷ []) (take n cs) (body_at form (drop n cs) 0))
+          ∙ ap (with_front (c ∷ [])) (raw_some form cs n m) ∙ sym (piece_again form (Raw c) cs h))
+      | inr h ↦ (let k : suc n ≡ 0 = e ∙ take_else (is_raw form c) (1 + prefix_len (is_raw form) cs) 0 h in cc)
+    ]
+
+pub raw_front : (form : Quoted) (cs text rest : List ℕ) (n : ℕ) → n ≡ prefix_len (is_raw form) cs → text ≡ take n cs → rest ≡ drop n cs
+    → with_front text (body_at form rest 0) ≡ body_at form cs 0
+raw_front form cs text rest n e t r =
+    ap (λ v. with_front v (body_at form rest 0)) t ∙ ap (λ v. with_front (take n cs) (body_at form v 0)) r ∙ raw_some form cs n e
 
 pub body_again : (form : Quoted) (pieces : List Piece) (rest : List ℕ) → list_all (is_piece form) pieces ≡ true
     → body_at form (flat_map spelling pieces ++ closing form ∷ rest) 0 ≡ Some (map meaning pieces, rest)

@@ -1,16 +1,16 @@
 -- Worked cases of the grammar.
 use Rattle.std.proofs.Common.{◌≡◌, refl, [], ◌∷◌, ◌++◌, Some, None, true, codes, ℕ, List, map, ap, sym, Option}
 use Rattle.std.specs.List.{flat_map, list_all}
-use Rattle.rdf_term.specs.declared.term.Term.TheVariants.{Iri, Blank, Plain, Tagged, Typed}
+use Rattle.rdf_term.specs.declared.term.Term.TheVariants.{Iri, Blank, Plain, Tagged}
 use Rattle.rdf_term.specs.declared.graph.Graph.TheVariants.{Absent, Named}
 use Rattle.rdf_term.specs.Statement.{Statement}
 use Rattle.rdf_term.specs.Validity.{has_scheme}
 use Rattle.nquads_line.specs.declared.kind.Kind.{Kind}
 use Rattle.nquads_line.specs.declared.kind.Kind.TheVariants.{Triples, Quads}
 use Rattle.nquads_line.specs.declared.quoted.Quoted.TheVariants as marks
-use Rattle.nquads_line.specs.Written.{Piece, Raw, Short, Four, Eight, spelling, meaning, is_piece}
+use Rattle.nquads_line.specs.Written.{Raw, Short, Four, Eight, spelling, meaning, is_piece}
 use Rattle.nquads_line.specs.Terms.{IsIriRef}
-use Rattle.nquads_line.specs.Grammar.{IsLineText, IsStatementLine}
+use Rattle.nquads_line.specs.Grammar.{IsLineText}
 use Rattle.nquads_line.specs.Reading.{line_at, statement_at, iri_at, label_at, literal_at, tagged_at, datatype_at}
 use Rattle.nquads_line.proofs.LineLemmas.{line_again, line_ok}
 

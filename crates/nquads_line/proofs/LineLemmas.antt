@@ -1,24 +1,22 @@
 -- What is read as a line is a line of the grammar, and a line of the grammar is read.
-use Rattle.std.proofs.Common.{◌≡◌, ◌≢◌, ℕ, List, [], ◌∷◌, ◌++◌, Bool, true, false, ◌==◌, ◌&&◌, ◌||◌, not, refl, ap, ◌∙◌, sym, subst, map, append_assoc, append-nil, Option, Some, None, inl, inr, codes, cond, length, ◌+◌}
-use Rattle.std.specs.List.{list_all, prefix_len}
-use Rattle.std.specs.Str.{bytes_eq, all_scalars, IsUtf8, chars}
-use Rattle.std.proofs.lemmas.Slice.Eq.{bytes_eq-Decides}
+use Rattle.std.proofs.Common.{◌≡◌, ℕ, List, [], ◌∷◌, ◌++◌, Bool, true, false, ◌==◌, ◌||◌, refl, ap, ◌∙◌, sym, subst, append_assoc, append-nil, Option, Some, None, inl, inr, codes, cond, length, ◌+◌}
+use Rattle.std.specs.List.{prefix_len}
+use Rattle.std.specs.Str.{IsUtf8, chars}
 use Rattle.std.proofs.lemmas.Str.{chars_from_encodes, encodes-chars, scalars-chars, encodes_same}
 use Rattle.rdf_term.specs.declared.term.Term.{Term}
 use Rattle.rdf_term.specs.declared.term.Term.TheVariants.{Iri, Blank, Plain, Tagged, Typed}
 use Rattle.rdf_term.specs.declared.graph.Graph.{Graph}
 use Rattle.rdf_term.specs.declared.graph.Graph.TheVariants.{Absent, Named}
-use Rattle.rdf_term.specs.Statement.{Statement, IsStatement}
+use Rattle.rdf_term.specs.Statement.{Statement}
 use Rattle.rdf_term.specs.Terms.{IsResource, IsIri, IsGraph}
-use Rattle.rdf_term.specs.Classes.{is_one_of}
 use Rattle.nquads_line.specs.declared.kind.Kind.{Kind}
 use Rattle.nquads_line.specs.declared.kind.Kind.TheVariants.{Triples, Quads}
 use Rattle.nquads_line.specs.Terms.{IsIriRef, IsTermText, is_space, is_blank}
-use Rattle.nquads_line.specs.Grammar.{IsLongest, IsComment, IsGraphText, IsStatementLine, IsEmptyLine, IsLineText, IsLine, IsTerm}
+use Rattle.nquads_line.specs.Grammar.{IsLongest, IsComment, IsGraphText, IsStatementLine, IsLineText, IsLine, IsTerm}
 use Rattle.nquads_line.specs.Reading.{◌>>=◌, skip, mark_at, iri_at, one_more, label_len, is_tag_char, resource_at, term_at, as_graph, graph_at, end_at, statement_at, as_quad, line_from, line_at, if_all, whole_term_at}
 use Rattle.nquads_line.proofs.LabelLemmas.{longest_again}
-use Rattle.nquads_line.proofs.TermLemmas.{skip_ok, skip_again, iri_ok, iri_again, begins_iri, IsToken, resource_ok, term_ok, NoSuffix, Stops, resource_again, term_again, typed_begins, tagged_begins}
-use Rattle.nquads_line.proofs.Steps.{chosen, take_then, take_else, both, split, either, true_or_false, equal, bind_ok, step, mark_ok}
+use Rattle.nquads_line.proofs.TermLemmas.{skip_ok, skip_again, iri_ok, iri_again, resource_ok, term_ok, NoSuffix, Stops, resource_again, term_again, typed_begins, tagged_begins}
+use Rattle.nquads_line.proofs.Steps.{chosen, take_else, both, split, either, equal, bind_ok, step, mark_ok}
 
 -- from the reading to the grammar
 

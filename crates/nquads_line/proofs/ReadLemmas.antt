@@ -1,5 +1,5 @@
 -- Steps of the reading.
-use Rattle.std.proofs.Common.{◌≡◌, ℕ, suc, zero, ◌+◌, ◌<◌, ◌≤◌, ◌^◌, List, [], ◌∷◌, ◌++◌, Bool, true, false, ◌==◌, ◌&&◌, ◌||◌, refl, ap, ◌∙◌, sym, subst, drop, take, length, append_assoc, append-nil, Option, Some, None, arith, encode_utf8, encode_utf8_all, nat_lt, ltb, get_or, inl, inr, codes}
+use Rattle.std.proofs.Common.{◌≡◌, ℕ, suc, zero, ◌<◌, ◌≤◌, ◌^◌, List, [], ◌∷◌, ◌++◌, Bool, true, false, ◌==◌, ◌&&◌, ◌||◌, refl, ap, ◌∙◌, sym, subst, drop, length, append_assoc, Option, Some, None, arith, encode_utf8, encode_utf8_all, nat_lt, get_or, inl, inr, codes}
 use Rattle.std.specs.Char.{digit_value}
 use Rattle.std.specs.Str.{bytes_eq, all_scalars, IsUtf8}
 use Rattle.std.proofs.lemmas.Str.{encode_ascii, encodes_same, chars_from_encodes, scalars-chars}

@@ -1,14 +1,14 @@
 -- What is read as a term is the text of one, and the text of one is read.
-use Rattle.std.proofs.Common.{◌≡◌, ◌≢◌, ℕ, suc, zero, ◌+◌, List, [], ◌∷◌, ◌++◌, Bool, true, false, ◌==◌, ◌&&◌, ◌||◌, refl, ap, ◌∙◌, sym, subst, drop, take, length, append_assoc, Option, Some, None, arith, inl, inr, if◌then◌else◌, codes, cond}
-use Rattle.std.specs.List.{list_all, prefix_len}
+use Rattle.std.proofs.Common.{◌≡◌, ◌≢◌, ℕ, suc, ◌+◌, List, [], ◌∷◌, ◌++◌, Bool, true, false, ◌==◌, ◌&&◌, ◌||◌, refl, ap, ◌∙◌, sym, subst, drop, take, length, append_assoc, Option, Some, None, arith, inl, inr, if◌then◌else◌, codes, cond}
+use Rattle.std.specs.List.{prefix_len}
 use Rattle.std.specs.Str.{bytes_eq}
 use Rattle.std.proofs.lemmas.Slice.Eq.{bytes_eq-Decides}
 use Rattle.std.proofs.lemmas.List.{take-append-drop}
 use Rattle.std.proofs.Math.Seq.{take-append_seam, drop-append_seam}
 use Rattle.rdf_term.specs.declared.term.Term.{Term}
 use Rattle.rdf_term.specs.declared.term.Term.TheVariants.{Iri, Blank, Plain, Tagged, Typed}
-use Rattle.rdf_term.specs.Terms.{IsResource, IsIri}
-use Rattle.rdf_term.specs.Classes.{is_letter, is_digit, is_one_of}
+use Rattle.rdf_term.specs.Terms.{IsResource}
+use Rattle.rdf_term.specs.Classes.{is_letter, is_digit}
 use Rattle.rdf_term.specs.Validity.{has_scheme, is_label, is_tag, is_tag_from, xsd_string}
 use Rattle.nquads_line.specs.declared.quoted.Quoted.TheVariants as quoted
 use Rattle.nquads_line.specs.Terms.{IsIriRef, IsString, IsTypedText, IsTaggedText, IsTermText, is_space, is_blank}

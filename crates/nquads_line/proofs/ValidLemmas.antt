@@ -1,5 +1,5 @@
 -- Terms that are read are valid.
-use Rattle.std.proofs.Common.{◌≡◌, ◌≢◌, ℕ, List, [], ◌∷◌, ◌++◌, Bool, true, false, ◌==◌, ◌&&◌, not, refl, ap, ◌∙◌, sym, subst, map, Option, Some, None, inl, inr, length}
+use Rattle.std.proofs.Common.{◌≡◌, ◌≢◌, ℕ, List, [], ◌∷◌, true, ◌&&◌, not, refl, ap, sym, subst, map, Some, inl, inr}
 use Rattle.std.specs.List.{list_all}
 use Rattle.std.specs.Str.{bytes_eq, all_scalars}
 use Rattle.std.proofs.lemmas.Slice.Eq.{bytes_eq-Decides}
@@ -10,13 +10,13 @@ use Rattle.rdf_term.specs.declared.graph.Graph.TheVariants.{Absent, Named}
 use Rattle.rdf_term.specs.Statement.{Statement}
 use Rattle.rdf_term.specs.Terms.{first, second}
 use Rattle.rdf_term.specs.Classes.{is_iri_char}
-use Rattle.rdf_term.specs.Validity.{has_scheme, is_iri_text, is_part, is_short, is_valid, xsd_string, IsValidTerm, IsValidGraph, IsValidQuad}
+use Rattle.rdf_term.specs.Validity.{has_scheme, is_iri_text, is_part, is_short, xsd_string, IsValidTerm, IsValidGraph, IsValidQuad}
 use Rattle.nquads_line.specs.declared.kind.Kind.{Kind}
 use Rattle.nquads_line.specs.declared.kind.Kind.TheVariants.{Triples, Quads}
 use Rattle.nquads_line.specs.declared.quoted.Quoted.TheVariants as quoted
 use Rattle.nquads_line.specs.Written.{Piece, Raw, Short, Four, Eight, meaning, hex_value, is_hex, is_piece}
 use Rattle.nquads_line.specs.Terms.{IsIriRef, IsTermText}
-use Rattle.nquads_line.specs.Grammar.{IsGraphText, IsStatementLine, IsLine, is_short_term, is_short_graph}
+use Rattle.nquads_line.specs.Grammar.{IsGraphText, IsLine, is_short_term, is_short_graph}
 use Rattle.nquads_line.specs.Sizes.{are_scalars, are_graph_scalars}
 use Rattle.nquads_line.proofs.Steps.{both, split, true_or_false}
 

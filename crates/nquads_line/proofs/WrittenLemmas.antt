@@ -1,5 +1,5 @@
 -- What is written is of the grammar.
-use Rattle.std.proofs.Common.{◌≡◌, ◌≢◌, ℕ, List, [], ◌∷◌, ◌++◌, Bool, true, false, ◌==◌, ◌&&◌, ◌||◌, not, refl, ap, ◌∙◌, sym, subst, map, append_assoc, append-nil, Option, Some, inl, codes, encode_utf8_all, if◌then◌else◌}
+use Rattle.std.proofs.Common.{◌≡◌, ℕ, List, [], ◌∷◌, ◌++◌, Bool, true, false, ◌==◌, ◌&&◌, ◌||◌, not, refl, ap, ◌∙◌, sym, subst, map, append_assoc, Some, inl, codes, encode_utf8_all, if◌then◌else◌}
 use Rattle.std.specs.List.{list_all, flat_map}
 use Rattle.std.specs.Str.{bytes_eq, all_scalars}
 use lib.Utf8.{scalar}
@@ -10,12 +10,12 @@ use Rattle.rdf_term.specs.declared.term.Term.TheVariants.{Iri, Blank, Plain, Tag
 use Rattle.rdf_term.specs.declared.graph.Graph.{Graph}
 use Rattle.rdf_term.specs.declared.graph.Graph.TheVariants.{Absent, Named}
 use Rattle.rdf_term.specs.Statement.{Statement, IsStatement}
-use Rattle.rdf_term.specs.Classes.{is_iri_char, is_string_char}
+use Rattle.rdf_term.specs.Classes.{is_iri_char}
 use Rattle.rdf_term.specs.Canonical.{escaped, quoted, term_text, graph_texts, canonical_line}
 use Rattle.rdf_term.specs.Validity.{has_scheme, is_iri_text, is_part, is_short, is_label, is_tag, xsd_string, IsValidTerm, IsValidGraph, IsValidQuad}
 use Rattle.nquads_line.specs.declared.kind.Kind.TheVariants.{Quads}
 use Rattle.nquads_line.specs.declared.quoted.Quoted.TheVariants as marks
-use Rattle.nquads_line.specs.Written.{Piece, Raw, Short, IsWritten, spelling, meaning, is_piece}
+use Rattle.nquads_line.specs.Written.{Piece, Raw, Short, spelling, meaning, is_piece}
 use Rattle.nquads_line.specs.Terms.{IsIriRef, IsString, IsTermText}
 use Rattle.nquads_line.specs.Grammar.{IsLongest, IsGraphText, IsStatementLine, IsLine, IsTerm}
 use Rattle.nquads_line.proofs.LabelLemmas.{longest_ok}

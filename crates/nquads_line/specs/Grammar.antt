@@ -1,5 +1,5 @@
 -- The grammar of one line: RDF 1.1 N-Triples, section 7, and RDF 1.1 N-Quads, section 4.
-use Rattle.std.specs.Prelude.{◌≡◌, ℕ, ◌≤◌, List, [], ◌∷◌, ◌++◌, Option, Some, None, Bool, IsTrue, codes, ◌&&◌, encode_utf8_all}
+use Rattle.std.specs.Prelude.{◌≡◌, ℕ, List, [], ◌∷◌, ◌++◌, Option, Some, None, Bool, IsTrue, codes, ◌&&◌, encode_utf8_all}
 use Rattle.std.specs.List.{list_all}
 use Rattle.std.specs.Str.{all_scalars}
 use Rattle.rdf_term.specs.declared.term.Term.{Term}

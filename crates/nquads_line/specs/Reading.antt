@@ -1,5 +1,5 @@
 -- What the functions of the reader give, each as one function on lists. The grammar above it is `Grammar`.
-use Rattle.std.specs.Prelude.{◌≡◌, ℕ, ◌+◌, List, [], ◌∷◌, ◌++◌, Option, Some, None, Bool, true, false, suc, zero, ◌==◌, ◌||◌, if◌then◌else◌, take, drop, codes, length}
+use Rattle.std.specs.Prelude.{◌≡◌, ℕ, ◌+◌, List, [], ◌∷◌, ◌++◌, Option, Some, None, Bool, suc, zero, ◌==◌, ◌||◌, if◌then◌else◌, take, drop, length}
 use Rattle.std.specs.List.{prefix_len}
 use Rattle.std.specs.Str.{bytes_eq}
 use Rattle.std.specs.declared.result.Result.{Result}
@@ -9,7 +9,7 @@ use Rattle.rdf_term.specs.declared.term.Term.TheVariants as terms
 use Rattle.rdf_term.specs.declared.graph.Graph.{Graph}
 use Rattle.rdf_term.specs.declared.graph.Graph.TheVariants.{Absent, Named}
 use Rattle.rdf_term.specs.Statement.{Statement}
-use Rattle.rdf_term.specs.Classes.{is_digit, is_letter, is_one_of, pn_chars_u, pn_chars}
+use Rattle.rdf_term.specs.Classes.{is_digit, is_letter, pn_chars_u, pn_chars}
 use Rattle.rdf_term.specs.Validity.{has_scheme, is_tag, xsd_string}
 use Rattle.nquads_line.specs.declared.kind.Kind.{Kind}
 use Rattle.nquads_line.specs.declared.kind.Kind.TheVariants.{Triples, Quads}

@@ -1,6 +1,6 @@
 ghost use Rattle.std.specs.Prelude.{◌≡◌, ◌≤◌, ◌+◌, ◌<◌, IsTrue, IfOk, SomeIff, length, drop};
-ghost use Rattle.std.specs.List.{list_all};
-ghost use Rattle.nquads_line.specs.Written.{is_hex_digit, hex_value};
+ghost use Rattle.std.specs.List.{list_all, prefix_len};
+ghost use Rattle.nquads_line.specs.Written.{is_hex_digit, hex_value, is_raw};
 ghost use Rattle.nquads_line.specs.Reading.{Gives, hex_at, escape_at, piece_at, body_at};
 
 use crate::LineFault;
@@ -96,12 +96,28 @@ fn behind(chars: &[char], count: usize) -> &[char]
     &chars[count..]
 }
 
+/// How many characters stand as they are before the first that does not.
+fn raw_len(form: Quoted, chars: &[char]) -> usize
+    ensures value { result ≡ prefix_len (is_raw form) chars.now }
+    ensures within { result ≤ length chars.now }
+{
+    for (i, character) in chars.iter().enumerate() {
+        if !form.is_raw(*character) {
+            return i;
+        }
+    }
+    chars.len()
+}
+
 /// The characters that are meant before the closing mark, and what stands after it.
+///
+/// Those before the first escape are taken at once.
 pub fn body(alloc: Global, form: Quoted, chars: &[char]) -> Result<(Text, &[char]), LineFault>
     ensures { Gives (λ x. (x.0, x.1.now)) result (body_at form chars.now 0) }
 {
-    let mut text = Text::new(alloc);
-    let mut rest = chars;
+    let raw = raw_len(form, chars);
+    let mut text = Text::from_char_slice(alloc, &chars[..raw])?;
+    let mut rest = &chars[raw..];
     while let Some((first, after)) = rest.split_first() {
         if *first == form.closing() {
             return Ok((text, after));

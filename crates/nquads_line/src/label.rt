@@ -1,10 +1,10 @@
-ghost use Rattle.std.specs.Prelude.{◌≡◌, ◌≤◌, ◌||◌, ◌++◌, IfOk, length};
+ghost use Rattle.std.specs.Prelude.{◌≡◌, ◌≤◌, ◌||◌, length};
 ghost use Rattle.rdf_term.specs.Classes.{pn_chars_base, pn_chars_u, pn_chars, is_in, is_digit};
 ghost use Rattle.nquads_line.specs.Reading.{Gives, label_len, label_from, label_at};
 
 use crate::LineFault;
 use crate::space::after;
-use rdf_term::{Memory, Text};
+use rdf_term::Text;
 use std::alloc::Global;
 
 /// PN_CHARS_BASE.
@@ -52,16 +52,6 @@ fn label_len(chars: &[char]) -> usize
     count
 }
 
-/// The text with these characters behind it.
-pub fn extended(mut text: Text, chars: &[char]) -> Result<Text, Memory>
-    ensures { IfOk result (λ it. it ≡ text ++ chars.now) }
-{
-    for character in chars {
-        text.push(*character)?;
-    }
-    Ok(text)
-}
-
 /// A label without `_:`, and what stands after it.
 fn label_from(alloc: Global, chars: &[char]) -> Result<(Text, &[char]), LineFault>
     ensures { Gives (λ x. (x.0, x.1.now)) result (label_from chars.now) }
@@ -75,7 +65,7 @@ fn label_from(alloc: Global, chars: &[char]) -> Result<(Text, &[char]), LineFaul
             let mut text = Text::new(alloc);
             text.push(*first)?;
             let count = label_len(rest);
-            Ok((extended(text, &rest[..count])?, &rest[count..]))
+            Ok((text.with_chars(&rest[..count])?, &rest[count..]))
         }
     }
 }

@@ -5,6 +5,7 @@
 //! the grammar leaves out between `<` and `>`. A literal typed as `xsd:string` is a plain one.
 #![tactic(auto)]
 
+mod characters;
 mod escape;
 mod fault;
 mod iri;

@@ -5,6 +5,7 @@ ghost use Rattle.rdf_term.specs.Terms.{IsGraph};
 ghost use Rattle.nquads_line.specs.Grammar.{IsLine, IsShortQuad, IsValidLine};
 ghost use Rattle.nquads_line.specs.Reading.{Gives, graph_at, statement_at, line_at};
 
+use crate::characters::characters;
 use crate::iri::iri;
 use crate::size::is_short_quad;
 use crate::space::{after, at_end, skip};
@@ -69,7 +70,7 @@ pub fn read_line(alloc: Global, kind: Kind, line: &[u8]) -> Result<Option<Quad>,
     let Ok(text) = str::from_utf8(line) else {
         return Err(LineFault::Bad);
     };
-    let chars: Vec<char> = text.chars().collect(alloc)?;
+    let chars = characters(alloc, text)?;
     match line_of(alloc, kind, chars.as_slice())? {
         None => Ok(None),
         Some(quad) => {

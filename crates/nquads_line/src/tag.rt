@@ -4,7 +4,6 @@ ghost use Rattle.rdf_term.specs.Validity.{is_tag};
 ghost use Rattle.nquads_line.specs.Reading.{Gives, is_tag_char, tag_at};
 
 use crate::LineFault;
-use crate::label::extended;
 use rdf_term::Text;
 use std::alloc::Global;
 
@@ -54,7 +53,7 @@ pub fn tag(alloc: Global, chars: &[char]) -> Result<(Text, &[char]), LineFault>
     let count = tag_len(chars);
     if is_tag(&chars[..count]) {
         Ok((
-            extended(Text::new(alloc), &chars[..count])?,
+            Text::from_char_slice(alloc, &chars[..count])?,
             &chars[count..],
         ))
     } else {

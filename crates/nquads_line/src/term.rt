@@ -5,6 +5,7 @@ ghost use Rattle.rdf_term.specs.Terms.{IsResource};
 ghost use Rattle.nquads_line.specs.Grammar.{IsTerm, IsShortTerm};
 ghost use Rattle.nquads_line.specs.Reading.{Gives, resource_at, term_at, whole_term_at};
 
+use crate::characters::characters;
 use crate::iri::iri;
 use crate::label::label;
 use crate::literal::literal;
@@ -64,7 +65,7 @@ pub fn read_term(alloc: Global, text: &[u8]) -> Result<Term, TermTextFault>
     let Ok(text) = str::from_utf8(text) else {
         return Err(TermTextFault::BadTerm);
     };
-    let Ok(chars) = text.chars().collect::<Vec<char>>(alloc) else {
+    let Ok(chars) = characters(alloc, text) else {
         return Err(TermTextFault::Memory);
     };
     match whole_term(alloc, chars.as_slice()) {

@@ -1,5 +1,5 @@
 -- Digests are below 2^32, and where digests lie between bounds so do keys.
-use Rattle.std.proofs.Common.{◌≡◌, ℕ, ◌+◌, ◌*◌, ◌%◌, ◌<◌, ◌≤◌, Bool, true, false, ◌&&◌, not, List, [], ◌∷◌, map, encode_utf8_all, refl, sym, ap, ◌∙◌, arith, lit<, fold}
+use Rattle.std.proofs.Common.{ℕ, ◌<◌, List, [], ◌∷◌, encode_utf8_all, arith, fold}
 use Rattle.rdf_term.specs.declared.term.Term.{Term}
 use Rattle.rdf_term.specs.declared.term.Term.TheVariants.{Iri, Blank, Plain, Tagged, Typed}
 use Rattle.rdf_term.specs.declared.graph.Graph.{Graph}

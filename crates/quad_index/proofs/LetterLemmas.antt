@@ -6,7 +6,6 @@ use Rattle.rdf_term.specs.Matching.{fits, picks_graph}
 use Rattle.std.specs.List.{list_any}
 use Rattle.rdf_term.specs.declared.term.Term.{Term}
 use Rattle.rdf_term.specs.declared.graph.Graph.{Graph}
-use Rattle.rdf_term.specs.Statement.{Statement}
 use Rattle.rdf_term.specs.Order.{term_cmp, graph_cmp}
 use Rattle.rdf_term.specs.OrderLaws.{term_exact, graph_exact}
 use Rattle.std.specs.Ordering.{eq_by_cmp, is_eq}

@@ -1,6 +1,6 @@
 -- Steps that go over several sets, one after another, and the sets of an index.
-use Rattle.std.proofs.Common.{◌≡◌, ◌≢◌, ℕ, zero, suc, ◌<◌, ◌≤◌, ◌+◌, Bool, true, false, ◌||◌, ◌&&◌, not, List, [], ◌∷◌, ◌++◌, length, get_or, set, map, take, drop, cond, Some, Result, Ok, Err, OnErr, arith, refl, sym, ap, ◌∙◌, subst, ◌⊎◌, inl, inr, slice_get}
-use Rattle.std.specs.List.{filter, list_any, AllByRecursion}
+use Rattle.std.proofs.Common.{◌≡◌, ◌≢◌, ℕ, zero, suc, ◌<◌, ◌≤◌, ◌+◌, Bool, true, false, ◌||◌, ◌&&◌, not, List, [], ◌∷◌, ◌++◌, length, get_or, set, map, take, drop, cond, Some, Result, Ok, Err, IfOk, OnErr, arith, refl, sym, ap, ◌∙◌, subst, ◌⊎◌, inl, inr, slice_get}
+use Rattle.std.specs.List.{filter, AllByRecursion}
 use Rattle.std.specs.List.Sorted.{IsStrictlySortedBy}
 use Rattle.std.specs.Ordering.{eq_by_cmp, is_eq, match_ordering}
 use Rattle.std.specs.BTreeSet.{insert_key}
@@ -259,3 +259,9 @@ filter_absent (x ∷ xs) k h = at (filter_absent xs k) (is_eq (quad_cmp k x)) re
 pub on_err : {X E : Type 0} (r : Result X E) (A B : Type 0) → (A → B) → OnErr r A → OnErr r B
 on_err (Ok x) A B f h = h
 on_err (Err e) A B f h = f h
+
+-- what was found, sorted
+pub found_in_order : {E : Type 0} (r : Result (List Statement) E) (xs ys : List Statement) → in_order xs ≡ ys
+    → IfOk r (λ found. found ≡ xs) → IfOk r (λ found. in_order found ≡ ys)
+found_in_order (Ok found) xs ys e h = ap in_order h ∙ e
+found_in_order (Err cause) xs ys e h = h

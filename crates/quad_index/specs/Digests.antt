@@ -1,5 +1,5 @@
 -- Digests of terms: numbers below 2^32, by which the keys of an index begin. Equal parts have equal digests.
-use Rattle.std.specs.Prelude.{ℕ, ◌+◌, ◌*◌, ◌%◌, ◌^◌, List, [], ◌∷◌, fold, map, encode_utf8_all}
+use Rattle.std.specs.Prelude.{ℕ, ◌+◌, ◌*◌, ◌%◌, List, fold, map, encode_utf8_all}
 use Rattle.rdf_term.specs.declared.term.Term.{Term}
 use Rattle.rdf_term.specs.declared.term.Term.TheVariants.{Iri, Blank, Plain, Tagged, Typed}
 use Rattle.rdf_term.specs.declared.graph.Graph.{Graph}

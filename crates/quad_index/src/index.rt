@@ -3,6 +3,7 @@ ghost use Rattle.std.specs.List.{filter};
 ghost use Rattle.std.specs.List.Sorted.{IsStrictlySortedBy};
 ghost use Rattle.std.specs.BTreeSet.{insert_key};
 ghost use Rattle.std.specs.Ordering.{eq_by_cmp};
+ghost use Rattle.rdf_term.specs.Matching.{matches};
 ghost use Rattle.rdf_term.specs.Order.{quad_cmp};
 ghost use Rattle.rdf_term.specs.Sets.{in_order};
 ghost use Rattle.quad_index.specs.Contents.{is_in, EachSet, Adds, Drops};
@@ -176,6 +177,18 @@ impl Index {
         self.find(quad).is_some()
     }
 
+    /// Copies of the quads that match the pattern, in the order that fits it best, or in term order
+    /// where the pattern gives the first part of none.
+    fn matching(&self, alloc: Global, pattern: &Pattern) -> Result<Quads, Memory>
+        ensures { IfOk result (λ found. in_order found ≡ filter (matches pattern.now) self.now.quads) }
+    {
+        let set = &self.sets[sets::best(self.sets.as_slice(), pattern)];
+        if set.order().run(pattern) == 0 {
+            return self.terms.matching(alloc, pattern);
+        }
+        set.matching(alloc, pattern)
+    }
+
     /// The number of quads.
     pub fn len(&self) -> u64
         ensures len { result ≡ length self.now.quads }
@@ -190,10 +203,6 @@ impl Scan for Index {
     ghost content = { λ index. index.quads };
 
     fn scan(&self, alloc: Global, pattern: &Pattern) -> Result<Quads, Memory> {
-        let set = &self.sets[sets::best(self.sets.as_slice(), pattern)];
-        if set.order().run(pattern) == 0 {
-            return self.terms.matching(alloc, pattern)?.into_set();
-        }
-        set.matching(alloc, pattern)?.into_set()
+        self.matching(alloc, pattern)?.into_set()
     }
 }

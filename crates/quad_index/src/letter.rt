@@ -1,7 +1,7 @@
 ghost use Rattle.std.specs.Prelude.{◌≡◌, IsTrue, IfSome};
 ghost use Rattle.rdf_term.specs.Matching.{matches, fits, picks_graph};
 ghost use Rattle.quad_index.specs.Digests.{part_digest, term_digest, graph_digest};
-ghost use Rattle.quad_index.specs.Letters.{gives, letter_of, same_letter};
+ghost use Rattle.quad_index.specs.Letters.{gives, letter_byte, letter_of, same_letter};
 
 use crate::digest;
 use rdf_term::{GraphPick, Pattern, Quad, Term};
@@ -47,6 +47,18 @@ impl Letter {
             b'o' => Some(Letter::O),
             b'c' => Some(Letter::C),
             _ => None,
+        }
+    }
+
+    /// The byte that the letter is written as.
+    pub(crate) fn byte(self) -> u8
+        ensures { result ≡ letter_byte self }
+    {
+        match self {
+            Letter::S => b's',
+            Letter::P => b'p',
+            Letter::O => b'o',
+            Letter::C => b'c',
         }
     }
 

@@ -1,12 +1,18 @@
-ghost use Rattle.std.specs.Prelude.{◌≡◌, ◌<◌, ◌≤◌, ◌^◌, [], ◌∷◌, map, IsTrue, IfSome, IfNone, Some};
+ghost use Rattle.std.specs.Prelude.{◌≡◌, ◌↔◌, ◌<◌, ◌≤◌, ◌^◌, [], ◌∷◌, ◌++◌, map, if◌then◌else◌, IsTrue, IfOk, OnErr, IfSome, IfNone, Some, Contains};
+ghost use Rattle.std.specs.List.{list_any};
+ghost use Rattle.std.specs.Ordering.{eq_by_cmp};
+ghost use Rattle.std.specs.Cmp.{partial_equiv_from_equiv};
+ghost use Rattle.std.proofs.lemmas.Cmp.{eq_by_cmp_equiv};
 ghost use Rattle.rdf_term.specs.Matching.{matches};
 ghost use Rattle.quad_index.specs.Digests.{digests, part_digest};
-ghost use Rattle.quad_index.specs.Letters.{IsArrangement, letter_byte, same_letter, run};
-ghost use Rattle.std.specs.List.{list_any};
+ghost use Rattle.quad_index.specs.Letters.{IsArrangement, letter_byte, same_letter, run, order_cmp, order_total, standard_orders};
 ghost use Rattle.quad_index.specs.Keys.{IsWithin};
 
+use crate::Orders;
 use crate::letter::Letter;
-use rdf_term::{Pattern, Quad};
+use rdf_term::{Memory, Pattern, Quad};
+use std::alloc::Global;
+use std::cmp::Ordering;
 use std::marker::Model;
 
 /// One of the 24 orders of a quad's parts: subject, predicate, object and graph, written `s`, `p`,
@@ -109,6 +115,63 @@ impl Order {
         )
     }
 
+    /// Subject, predicate, object, graph.
+    fn spoc() -> Order
+        ensures { result ≡ Letter.S ∷ Letter.P ∷ Letter.O ∷ Letter.C ∷ [] }
+    {
+        Order {
+            letters: [Letter::S, Letter::P, Letter::O, Letter::C],
+        }
+    }
+
+    /// Predicate, object, subject, graph.
+    fn posc() -> Order
+        ensures { result ≡ Letter.P ∷ Letter.O ∷ Letter.S ∷ Letter.C ∷ [] }
+    {
+        Order {
+            letters: [Letter::P, Letter::O, Letter::S, Letter::C],
+        }
+    }
+
+    /// The orders where none are asked for: `spoc` and `posc`.
+    pub fn standard(alloc: Global) -> Result<Orders, Memory>
+        ensures { IfOk result (λ orders. orders ≡ standard_orders) }
+    {
+        let mut orders = Orders::new(alloc);
+        orders.push(Order::spoc())?;
+        orders.push(Order::posc())?;
+        Ok(orders)
+    }
+
+    /// Adds this order at the end of a list that it is not in, and answers whether it was added.
+    /// Without memory the list stays as it was.
+    pub fn add_to(self, orders: &mut Orders) -> Result<bool, Memory>
+        ensures refused { IfOk result (λ added. IsTrue added ↔ (¬ (Contains orders.old self))) }
+        ensures orders { IfOk result (λ added. orders.new ≡ (if added then orders.old ++ self ∷ [] else orders.old)) }
+        ensures memory { OnErr result (orders.new ≡ orders.old) }
+    {
+        if orders.as_slice().contains(&self) {
+            return Ok(false);
+        }
+        orders.push(self)?;
+        Ok(true)
+    }
+
+    /// The four letters as they are written.
+    fn written(&self) -> [u8; 4]
+        ensures { result ≡ map letter_byte self.now }
+    {
+        let [a, b, c, d] = self.letters;
+        [a.byte(), b.byte(), c.byte(), d.byte()]
+    }
+
+    /// How two orders compare as they are written.
+    fn compare(&self, other: &Order) -> Ordering
+        ensures { result ≡ order_cmp self.now other.now }
+    {
+        self.written().cmp(&other.written())
+    }
+
     /// The digests of a quad's parts in this order.
     pub(crate) fn digests(&self, quad: &Quad) -> [u32; 4]
         ensures { result ≡ digests self.now quad.now }
@@ -154,4 +217,21 @@ impl Order {
             4
         }
     }
+}
+
+impl PartialEq for Order {
+    ghost eq = { eq_by_cmp order_cmp };
+
+    ghost laws = { partial_equiv_from_equiv (eq_by_cmp_equiv order_total) };
+
+    fn eq(&self, other: &Order) -> bool
+        ensures value { result ≡ eq_by_cmp order_cmp self.now other.now }
+        ensures same { IsTrue result ↔ (self.now ≡ other.now) }
+    {
+        self.compare(other).is_eq()
+    }
+}
+
+impl Eq for Order {
+    ghost laws = { eq_by_cmp_equiv order_total };
 }

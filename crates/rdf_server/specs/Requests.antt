@@ -8,7 +8,10 @@ use Rattle.http_frame.specs.declared.message.Head.{Head}
 use Rattle.nquads_line.specs.declared.kind.Kind.{Kind}
 use Rattle.nquads_line.specs.declared.kind.Kind.TheVariants.{Triples, Quads}
 use Rattle.rdf_server.specs.declared.action.Action.{Action}
-use Rattle.rdf_server.specs.declared.action.Action.TheVariants.{Add, List as ListQuads, Unknown}
+use Rattle.rdf_server.specs.declared.action.Action.TheVariants.{Write, Remove, List as ListQuads, Unknown}
+use Rattle.rdf_server.specs.declared.action.Writing.{Writing}
+use Rattle.rdf_server.specs.declared.action.Writing.TheVariants.{Adds, Replaces}
+use Rattle.api_parts.specs.Parameters.{path_of, query_of, parameters}
 
 -- the target of the statements of the repository id
 abbrev pub statements_target : List ℕ → List ℕ
@@ -39,15 +42,25 @@ content_kind fields =
     if nat_lt 1 (count_by (is_named (codes "content-type")) fields) then None
     else kind_of_field (find (is_named (codes "content-type")) fields)
 
--- a body is added where it is said to be a document
-abbrev pub add_of : Option Kind → Action
-add_of None = Unknown
-add_of (Some kind) = Add kind
+-- a body is written where it is said to be a document
+abbrev pub write_of : Writing → Option Kind → Action
+write_of writing None = Unknown
+write_of writing (Some kind) = Write writing kind
 
--- what a request asks of the repository whose statements have this target: GET lists, POST adds
+-- what a request with this method and these fields asks: GET lists, DELETE removes, POST adds, and PUT replaces
+abbrev pub asked_by : List ℕ → List (List ℕ × List ℕ) → Action
+asked_by method fields =
+    if is_text method (codes "GET") then ListQuads
+    else if is_text method (codes "DELETE") then Remove
+    else if is_text method (codes "POST") then write_of Adds (content_kind fields)
+    else if is_text method (codes "PUT") then write_of Replaces (content_kind fields)
+    else Unknown
+
+-- what a request asks of the repository whose statements have this target, which stands before the parameters
 abbrev pub action_of : List ℕ → Head → Action
 action_of target head =
-    if is_text head.target target
-    then (if is_text head.method (codes "GET") then ListQuads
-    else (if is_text head.method (codes "POST") then add_of (content_kind head.fields) else Unknown))
-    else Unknown
+    if bytes_eq (path_of (encode_utf8_all head.target)) target then asked_by head.method head.fields else Unknown
+
+-- the parameters of a request
+abbrev pub parameters_of : Head → List (List ℕ × List ℕ)
+parameters_of head = parameters (query_of (encode_utf8_all head.target))

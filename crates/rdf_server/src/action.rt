@@ -1,18 +1,31 @@
 //! What a request asks for.
-ghost use Rattle.std.specs.Prelude.{◌≡◌, ◌==◌, codes, position};
+ghost use Rattle.std.specs.Prelude.{◌≡◌, ◌==◌, codes, position, IfOk};
 ghost use Rattle.std.specs.List.{before_first};
 ghost use Rattle.std.specs.Option.{option_copied};
-ghost use Rattle.rdf_server.specs.Requests.{is_text, media_type, document_kind, kind_of_field, content_kind, action_of};
+ghost use Rattle.rdf_server.specs.Requests.{is_text, media_type, document_kind, kind_of_field, content_kind, write_of, asked_by, action_of, parameters_of};
 
+use api_parts::{Parameters, parameters, path_of, query_of};
 use http_frame::{Fields, Octets, Request, count_named, find_named, same_name, trim_ows};
 use nquads::Kind;
-use rdf_term::Text;
+use rdf_term::{Memory, Text};
+use std::alloc::Global;
+
+/// How a document is written.
+#[derive(Clone, Copy)]
+pub enum Writing {
+    /// Its statements are added.
+    Adds,
+    /// They take the place of what is there.
+    Replaces,
+}
 
 /// What a request asks of the repository.
 pub enum Action {
-    /// To add the quads of its body, a document of this kind.
-    Add(Kind),
-    /// To list all quads.
+    /// To write the statements of its body, a document of this kind.
+    Write(Writing, Kind),
+    /// To remove what is selected.
+    Remove,
+    /// To list what is selected.
     List,
     /// Something that is not there.
     Unknown,
@@ -81,24 +94,52 @@ fn content_kind(fields: &Fields) -> Option<Kind>
     kind_of_field(find_named(fields, b"content-type"))
 }
 
+/// To write a body of this kind, where it is said to be a document.
+fn write_of(writing: Writing, kind: Option<Kind>) -> Action
+    ensures { result ≡ write_of writing kind }
+{
+    match kind {
+        None => Action::Unknown,
+        Some(kind) => Action::Write(writing, kind),
+    }
+}
+
+/// What a request with this method and these fields asks.
+fn asked_by(method: &Text, fields: &Fields) -> Action
+    ensures { result ≡ asked_by method.now fields.now }
+{
+    if is_text(method, b"GET") {
+        return Action::List;
+    }
+    if is_text(method, b"DELETE") {
+        return Action::Remove;
+    }
+    if is_text(method, b"POST") {
+        return write_of(Writing::Adds, content_kind(fields));
+    }
+    if is_text(method, b"PUT") {
+        return write_of(Writing::Replaces, content_kind(fields));
+    }
+    Action::Unknown
+}
+
 /// What a request asks of the repository whose statements have this target.
 pub fn action_of(request: &Request, target: &[u8]) -> Action
     ensures { result ≡ action_of target.now request.now.head }
 {
     let head = &request.head;
-    if !is_text(&head.target, target) {
-        return Action::Unknown;
+    if path_of(head.target.as_str().as_bytes()) == target {
+        asked_by(&head.method, &head.fields)
+    } else {
+        Action::Unknown
     }
-    if is_text(&head.method, b"GET") {
-        return Action::List;
-    }
-    if is_text(&head.method, b"POST") {
-        return match content_kind(&head.fields) {
-            Some(kind) => Action::Add(kind),
-            None => Action::Unknown,
-        };
-    }
-    Action::Unknown
+}
+
+/// The parameters of a request.
+pub fn parameters_of(alloc: Global, request: &Request) -> Result<Parameters, Memory>
+    ensures { IfOk result (λ it. it ≡ parameters_of request.now.head) }
+{
+    parameters(alloc, query_of(request.head.target.as_str().as_bytes()))
 }
 
 /// Whether the response to a request has no body (RFC 9110, section 9.3.2).

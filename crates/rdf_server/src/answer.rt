@@ -1,11 +1,20 @@
 //! The answers to requests.
-ghost use Rattle.std.specs.Prelude.{◌≡◌, ◌++◌, decimal, IfOk};
-ghost use Rattle.rdf_server.specs.Requests.{action_of};
-ghost use Rattle.rdf_server.specs.Answers.{with_type, refused_with, listing, frame_text, no_content, IsOutcome, IsAnswer, refusal};
-ghost use Rattle.rdf_server.specs.declared.action.Action.TheVariants.{Add};
+ghost use Rattle.std.specs.Prelude.{◌≡◌, ◌++◌, [], All, codes, decimal, IfOk, OnOk};
+ghost use Rattle.rdf_term.specs.Terms.{IsGraph};
+ghost use Rattle.change_set.specs.Content.{applied};
+ghost use Rattle.api_parts.specs.Selections.{name_of};
+ghost use Rattle.api_parts.specs.Writes.{removals};
+ghost use Rattle.rdf_server.specs.Requests.{action_of, parameters_of};
+ghost use Rattle.rdf_server.specs.Answers.{with_type, refused_with, listing, frame_text, no_content, written_as, IsDocumentWrite, IsWrite, IsOutcome, IsAnswer, refusal};
+ghost use Rattle.rdf_server.specs.declared.action.Action.TheVariants.{Remove, List as ListQuads};
 
-use crate::action::{Action, action_of, is_bodiless};
+use crate::action::{Action, Writing, action_of, is_bodiless, parameters_of};
 use crate::repository::Repository;
+use api_parts::{
+    Graphs, Parameter, ParameterFault, Parameters, Selection, additions, read_contexts,
+    read_selection, removals, replacements,
+};
+use change_set::Changes;
 use http_frame::{Fields, FrameFault, Octets, Request, Response, write_response};
 use nquads::{DataFault, Kind, read_document, write_quads};
 use rdf_term::{Bytes, Memory, Quads};
@@ -50,7 +59,7 @@ fn no_content(alloc: Global) -> Response
     }
 }
 
-/// All quads as canonical lines.
+/// Quads as canonical lines.
 fn listing(alloc: Global, quads: &Quads) -> Result<Response, Memory>
     ensures { IfOk result (λ response. response ≡ listing quads.now) }
 {
@@ -77,19 +86,49 @@ fn refused_line(alloc: Global, cause: &[u8], line: u64) -> Result<Response, Memo
     Ok(response)
 }
 
-/// Adds the quads of a document, or none of them where a line is refused.
-fn add(
+/// Says which parameter is refused.
+fn refused_parameter(alloc: Global, parameter: Parameter) -> Result<Response, Memory>
+    ensures { IfOk result (λ response. response ≡ refused_with 400 (codes "bad parameter " ++ name_of parameter)) }
+{
+    let mut body = Bytes::new(alloc);
+    body.append(b"bad parameter ")?;
+    body.append(parameter.name().as_bytes())?;
+    with_type(alloc, 400, b"text/plain;charset=UTF-8", body)
+}
+
+/// The changes that adding statements makes, or putting them in the place of what is there.
+fn changes_of(
+    alloc: Global,
+    writing: Writing,
+    contexts: &Graphs,
+    quads: Quads,
+) -> Result<Changes, Memory>
+    requires { All IsGraph contexts.now }
+    ensures { IfOk result (λ it. it ≡ written_as writing contexts.now quads) }
+{
+    match writing {
+        Writing::Adds => additions(alloc, contexts, quads),
+        Writing::Replaces => replacements(alloc, contexts, quads),
+    }
+}
+
+/// Writes the statements of a document, or none of them where a line is refused.
+fn write_document(
     alloc: Global,
     repository: &mut Repository,
+    writing: Writing,
+    contexts: &Graphs,
     kind: Kind,
     body: &[u8],
 ) -> Result<Response, Memory>
-    ensures outcome { IfOk result (λ response. IsOutcome (Add kind) body.now repository.old.quads response repository.new.quads) }
+    requires { All IsGraph contexts.now }
+    ensures outcome { IfOk result (λ response. IsDocumentWrite (written_as writing contexts.now) kind body.now repository.old.quads response repository.new.quads) }
     ensures target { repository.new.target ≡ repository.old.target }
 {
     match read_document(alloc, kind, body) {
         Ok(quads) => {
-            repository.add(alloc, quads)?;
+            let changes = changes_of(alloc, writing, contexts, quads)?;
+            repository.apply(&changes)?;
             Ok(no_content(alloc))
         }
         Err(DataFault::BadLine(line)) => {
@@ -104,17 +143,100 @@ fn add(
     }
 }
 
-/// Does what a request asks, and answers it.
-fn answer(alloc: Global, repository: &mut Repository, request: &Request) -> Result<Response, Memory>
-    ensures outcome { IfOk result (λ response. IsOutcome (action_of repository.old.target request.now.head) request.now.body
-        repository.old.quads response repository.new.quads) }
+/// Writes a document where the parameters say.
+fn write(
+    alloc: Global,
+    repository: &mut Repository,
+    writing: Writing,
+    kind: Kind,
+    parameters: &Parameters,
+    body: &[u8],
+) -> Result<Response, Memory>
+    ensures outcome { IfOk result (λ response. IsWrite (written_as writing) kind parameters.now body.now repository.old.quads response repository.new.quads) }
     ensures target { repository.new.target ≡ repository.old.target }
 {
-    match action_of(request, repository.target.as_slice()) {
-        Action::Add(kind) => add(alloc, repository, kind, request.body.as_slice()),
-        Action::List => listing(alloc, &repository.quads),
+    match read_contexts(alloc, parameters) {
+        Ok(contexts) => write_document(alloc, repository, writing, &contexts, kind, body),
+        Err(ParameterFault::Bad(parameter)) => refused_parameter(alloc, parameter),
+        Err(ParameterFault::Memory) => Err(Memory),
+    }
+}
+
+/// Removes what is selected.
+fn remove_selected(
+    alloc: Global,
+    repository: &mut Repository,
+    selection: &Selection,
+) -> Result<Response, Memory>
+    ensures response { IfOk result (λ response. response ≡ no_content) }
+    ensures quads { OnOk result (repository.new.quads ≡ applied repository.old.quads (removals selection.now)) }
+    ensures target { repository.new.target ≡ repository.old.target }
+{
+    repository.apply(&removals(alloc, selection)?)?;
+    Ok(no_content(alloc))
+}
+
+/// Removes what the parameters select.
+fn remove(
+    alloc: Global,
+    repository: &mut Repository,
+    parameters: &Parameters,
+) -> Result<Response, Memory>
+    ensures outcome { IfOk result (λ response. IsOutcome Remove parameters.now [] repository.old.quads response repository.new.quads) }
+    ensures target { repository.new.target ≡ repository.old.target }
+{
+    match read_selection(alloc, parameters) {
+        Ok(selection) => remove_selected(alloc, repository, &selection),
+        Err(ParameterFault::Bad(parameter)) => refused_parameter(alloc, parameter),
+        Err(ParameterFault::Memory) => Err(Memory),
+    }
+}
+
+/// Lists what the parameters select.
+fn list(alloc: Global, repository: &Repository, parameters: &Parameters) -> Result<Response, Memory>
+    ensures { IfOk result (λ response. IsOutcome ListQuads parameters.now [] repository.now.quads response repository.now.quads) }
+{
+    match read_selection(alloc, parameters) {
+        Ok(selection) => listing(alloc, &repository.select(alloc, &selection)?),
+        Err(ParameterFault::Bad(parameter)) => refused_parameter(alloc, parameter),
+        Err(ParameterFault::Memory) => Err(Memory),
+    }
+}
+
+/// Takes an action with these parameters and this body, and answers it.
+fn answer_to(
+    alloc: Global,
+    repository: &mut Repository,
+    action: Action,
+    parameters: &Parameters,
+    body: &[u8],
+) -> Result<Response, Memory>
+    ensures outcome { IfOk result (λ response. IsOutcome action parameters.now body.now repository.old.quads response repository.new.quads) }
+    ensures target { repository.new.target ≡ repository.old.target }
+{
+    match action {
+        Action::Write(writing, kind) => write(alloc, repository, writing, kind, parameters, body),
+        Action::Remove => remove(alloc, repository, parameters),
+        Action::List => list(alloc, repository, parameters),
         Action::Unknown => refused_with(alloc, 404, b"no such resource"),
     }
+}
+
+/// Does what a request asks, and answers it.
+fn answer(alloc: Global, repository: &mut Repository, request: &Request) -> Result<Response, Memory>
+    ensures outcome { IfOk result (λ response. IsOutcome (action_of repository.old.target request.now.head) (parameters_of request.now.head)
+        request.now.body repository.old.quads response repository.new.quads) }
+    ensures target { repository.new.target ≡ repository.old.target }
+{
+    let parameters = parameters_of(alloc, request)?;
+    let action = action_of(request, repository.target());
+    answer_to(
+        alloc,
+        repository,
+        action,
+        &parameters,
+        request.body.as_slice(),
+    )
 }
 
 /// The same, as the bytes of the response.

@@ -1,41 +1,150 @@
-ghost use Rattle.std.specs.Prelude.{◌≡◌, ◌++◌, [], IfOk, OnOk};
-ghost use Rattle.rdf_term.specs.Sets.{in_order};
+ghost use Rattle.std.specs.Prelude.{◌≡◌, ◌≤◌, [], length, IfOk, OnOk, OnErr};
+ghost use Rattle.std.specs.List.{filter, flat_map, list_any};
+ghost use Rattle.std.specs.List.Sorted.{IsStrictlySortedBy};
+ghost use Rattle.rdf_term.specs.Matching.{matches};
+ghost use Rattle.rdf_term.specs.Order.{quad_cmp};
+ghost use Rattle.change_set.specs.Content.{applied};
+ghost use Rattle.api_parts.specs.Selections.{selected};
 ghost use Rattle.rdf_server.specs.Requests.{statements_target};
 
+use api_parts::{Selection, patterns_of};
+use branch::Branch;
+use change_set::{ChangeSet, Changes};
 use http_frame::Octets;
-use rdf_term::{Memory, Quads};
+use quad_index::{Index, Orders};
+use rdf_term::{Memory, Pattern, Quads, Scan};
 use std::alloc::Global;
-use std::mem;
+use std::marker::Model;
 
-/// A repository: the request target of its statements, and its quads in order, each once.
+/// A repository: the request target of its statements, and its quads in a branch.
 #[derive(Drop)]
 pub struct Repository {
-    pub target: Octets,
-    pub quads: Quads,
+    alloc: Global,
+    target: Octets,
+    branch: Branch,
+    /// How many changes stand above the branch's base, and how many quads this has.
+    changes: usize,
+    base: u64,
+}
+
+impl Model for Repository {
+    ghost use Rattle.std.specs.List.Sorted.{IsStrictlySortedBy};
+    ghost use Rattle.rdf_term.specs.Order.{quad_cmp};
+    ghost use Rattle.rdf_server.specs.Repositories.{Holding};
+
+    ghost Value = { Holding };
+
+    ghost view = { λ it. record { target = it.target; quads = it.branch.quads } };
+
+    ghost invariant = { λ it. IsStrictlySortedBy quad_cmp it.branch.quads };
+}
+
+/// The request target of the statements of a repository.
+fn statements_target(alloc: Global, id: &str) -> Result<Octets, Memory>
+    ensures { IfOk result (λ it. it ≡ statements_target id.now) }
+{
+    let path = format!(in alloc; "/rdf4j-server/repositories/{id}/statements")?;
+    Ok(Octets::from_vec(path.into_bytes()))
+}
+
+/// Above a base of so many quads so many changes are few. More of them are folded into a new base, so
+/// that a scan costs what it finds and not what was written, and a quad is moved a few times at most.
+fn are_few(changes: usize, base: u64) -> bool {
+    changes as u64 <= 1_000 + base / 8
+}
+
+/// The quads that match the patterns, one pattern after the other.
+fn scan_all(alloc: Global, branch: &Branch, patterns: &[Pattern]) -> Result<Quads, Memory>
+    ensures { IfOk result (λ it. it ≡ flat_map (λ p. filter (matches p) branch.now.quads) patterns.now) }
+{
+    let mut found = Quads::new(alloc);
+    for pattern in patterns {
+        found.append(branch.scan(alloc, pattern)?)?;
+    }
+    Ok(found)
+}
+
+/// The quads that match one of the patterns, in order.
+#[tactic(auto, using(crate::proofs::RepositoryLemmas::found_set))]
+fn scan_set(alloc: Global, branch: &Branch, patterns: &[Pattern]) -> Result<Quads, Memory>
+    requires { IsStrictlySortedBy quad_cmp branch.now.quads }
+    ensures { IfOk result (λ it. it ≡ filter (λ q. list_any (λ p. matches p q) patterns.now) branch.now.quads) }
+{
+    let found = scan_all(alloc, branch, patterns)?;
+    let set = found.into_set()?;
+    Ok(set)
+}
+
+/// Pushes changes onto a branch. Without memory it stays as it was.
+#[tactic(auto, using(crate::proofs::RepositoryLemmas::pushed, crate::proofs::RepositoryLemmas::ascending))]
+fn push_changes(alloc: Global, branch: &mut Branch, changes: &Changes) -> Result<(), Memory>
+    ensures quads { OnOk result (branch.new.quads ≡ applied branch.old.quads changes.now) }
+    ensures ascending { OnOk result (IsStrictlySortedBy quad_cmp branch.new.quads) }
+    ensures memory { OnErr result (branch.new ≡ branch.old) }
+{
+    let set = ChangeSet::from_changes(alloc, changes.as_slice())?;
+    branch.push(set)?;
+    Ok(())
 }
 
 impl Repository {
-    /// An empty repository of this name.
-    pub fn new(alloc: Global, id: &str) -> Result<Repository, Memory>
-        ensures target { IfOk result (λ repository. repository.target ≡ statements_target id.now) }
-        ensures quads { IfOk result (λ repository. repository.quads ≡ []) }
+    /// An empty repository of this name, which keeps its quads in these orders.
+    pub fn new(alloc: Global, id: &str, orders: &Orders) -> Result<Repository, Memory>
+        requires some { 1 ≤ length orders.now }
+        requires few { length orders.now ≤ 6 }
+        ensures { IfOk result (λ it. it ≡ record { target = statements_target id.now; quads = [] }) }
     {
-        let path = format!(in alloc; "/rdf4j-server/repositories/{id}/statements")?;
+        let index = Index::build(alloc, orders, &Quads::new(alloc))?;
         Ok(Repository {
-            target: Octets::from_vec(path.into_bytes()),
-            quads: Quads::new(alloc),
+            alloc,
+            target: statements_target(alloc, id)?,
+            branch: Branch::new(alloc, index)?,
+            changes: 0,
+            base: 0,
         })
     }
 
-    /// Adds quads: the new ones are sorted once and merged once with those that are there. Without
-    /// memory the repository is of no further use.
-    pub fn add(&mut self, alloc: Global, more: Quads) -> Result<(), Memory>
-        ensures target { self.new.target ≡ self.old.target }
-        ensures quads { OnOk result (self.new.quads ≡ in_order (self.old.quads ++ more)) }
+    /// The request target of its statements.
+    pub fn target(&self) -> &[u8]
+        ensures { result.now ≡ self.now.target }
     {
-        let mut quads = mem::replace(&mut self.quads, Quads::new(alloc));
-        quads.append(more)?;
-        self.quads = quads.into_set()?;
+        self.target.as_slice()
+    }
+
+    /// The quads that are selected, in order.
+    pub fn select(&self, alloc: Global, selection: &Selection) -> Result<Quads, Memory>
+        ensures { IfOk result (λ quads. quads ≡ selected selection.now self.now.quads) }
+    {
+        let patterns = patterns_of(alloc, selection)?;
+        scan_set(alloc, &self.branch, patterns.as_slice())
+    }
+
+    /// Makes changes. Without memory the repository stays as it was.
+    pub fn apply(&mut self, changes: &Changes) -> Result<(), Memory>
+        ensures target { self.new.target ≡ self.old.target }
+        ensures quads { OnOk result (self.new.quads ≡ applied self.old.quads changes.now) }
+        ensures memory { OnErr result (self.new ≡ self.old) }
+    {
+        push_changes(self.alloc, &mut self.branch, changes)?;
+        self.changes = self.changes.saturating_add(changes.len());
+        if !are_few(self.changes, self.base) {
+            self.fold();
+        }
         Ok(())
+    }
+
+    /// Folds the changes into a new base, where memory is found for it.
+    fn fold(&mut self)
+        ensures { self.new ≡ self.old }
+    {
+        let Ok(base) = self.branch.fold() else {
+            return;
+        };
+        let quads = base.len();
+        if let Ok(branch) = Branch::new(self.alloc, base) {
+            self.branch = branch;
+            self.changes = 0;
+            self.base = quads;
+        }
     }
 }

@@ -1,17 +1,17 @@
-ghost use Rattle.std.specs.Prelude.{◌≡◌, ◌≢◌, ℕ, List, [], ◌++◌, Some, None, map, ◌↔◌, encode_utf8_all};
+ghost use Rattle.std.specs.Prelude.{◌≡◌, ◌≢◌, ℕ, List, [], ◌++◌, Some, IfOk, map, ◌↔◌, encode_utf8_all};
 ghost use Rattle.rdf_server.specs.Requests.{statements_target};
 ghost use Rattle.rdf_server.specs.Sessions.{IsSession, IsServed};
 ghost use Rattle.rdf_server.specs.Turns.{HasCauses};
-ghost use Rattle.rdf_server.specs.Words.{stdio_id, status_of};
+ghost use Rattle.rdf_server.specs.Words.{IsStdio, status_of};
 ghost use Rattle.rdf_server.specs.declared.session.End.{End};
 ghost use Rattle.rdf_server.specs.declared.session.End.TheVariants.{ReadFault, WriteFault};
 
 use crate::repository::Repository;
 use crate::session::{End, serve};
-use crate::words::stdio_id;
+use crate::words::{orders_of, stdio_words};
 use http_frame::Frames;
 use rdf_io::{Sink, Source};
-use rdf_term::Text;
+use rdf_term::{Memory, Text};
 use std::alloc::Global;
 
 fn status_of(end: End) -> u8
@@ -27,15 +27,29 @@ fn status_of(end: End) -> u8
     }
 }
 
+/// An empty repository of this name, with the orders that options name.
+fn new_repository(alloc: Global, options: &[Text], id: &str) -> Result<Repository, Memory>
+    ensures { IfOk result (λ it. it ≡ record { target = statements_target id.now; quads = [] }) }
+{
+    let orders = orders_of(alloc, options)?;
+    Repository::new(alloc, id, &orders)
+}
+
 /// A whole session on a new repository of this name.
-fn run_session<S: Source, K: Sink>(alloc: Global, id: &str, source: &mut S, sink: &mut K) -> End
+fn run_session<S: Source, K: Sink>(
+    alloc: Global,
+    options: &[Text],
+    id: &str,
+    source: &mut S,
+    sink: &mut K,
+) -> End
     ensures session { (b t : List ℕ) → S.left source.old ≡ Some b → K.taken sink.old ≡ Some t
         → (written : List ℕ) × (K.taken sink.new ≡ Some (t ++ written)) × IsServed id.now b result written }
     ensures causes { HasCauses (S.faults source.old) (S.faults source.new) (K.faults sink.old) (K.faults sink.new)
         (result ≡ ReadFault) (result ≡ WriteFault) }
     ensures sound { S.sound source.old → (result ≢ ReadFault) × S.sound source.new }
 {
-    let mut repository = match Repository::new(alloc, id) {
+    let mut repository = match new_repository(alloc, options, id) {
         Ok(repository) => repository,
         Err(_) => return End::Memory,
     };
@@ -45,8 +59,9 @@ fn run_session<S: Source, K: Sink>(alloc: Global, id: &str, source: &mut S, sink
     }
 }
 
-/// The program `stdio ID` over any source and sink: it reads HTTP requests, answers them in order on
-/// the repository ID, which is empty at first, and answers its status.
+/// The program `stdio OPTIONS ID` over any source and sink: it reads HTTP requests, answers them in
+/// order on the repository ID, which is empty at first, and answers its status. An option `--order O`,
+/// up to six times, names an order in which the repository keeps its quads.
 ///
 /// | Status | Cause |
 /// |---|---|
@@ -63,13 +78,13 @@ pub fn run_stdio<S: Source, K: Sink>(
     sink: &mut K,
 ) -> u8
     // 5 comes exactly where the words are none of this program, and then nothing is read or written.
-    ensures words { result ≡ 5 ↔ (stdio_id (map encode_utf8_all words.now) ≡ None) }
+    ensures words { result ≡ 5 ↔ ((id : List ℕ) → IsStdio (map encode_utf8_all words.now) id → ⊥) }
     ensures unread { result ≡ 5 → S.left source.new ≡ S.left source.old }
     ensures unwritten { result ≡ 5 → K.taken sink.new ≡ K.taken sink.old }
 
     // Else what is written is the text of the session over the bytes that the source tells, however it
     // cuts them, and the status says how the session ended.
-    ensures session { (id b t : List ℕ) → stdio_id (map encode_utf8_all words.now) ≡ Some id
+    ensures session { (id b t : List ℕ) → IsStdio (map encode_utf8_all words.now) id
         → S.left source.old ≡ Some b → K.taken sink.old ≡ Some t
         → (end : End) × (result ≡ status_of end)
         × (written : List ℕ) × (K.taken sink.new ≡ Some (t ++ written)) × IsServed id b end written }
@@ -79,10 +94,10 @@ pub fn run_stdio<S: Source, K: Sink>(
         (result ≡ 2) (result ≡ 3) }
     ensures sound { S.sound source.old → (result ≢ 2) × S.sound source.new }
 {
-    match stdio_id(words) {
+    match stdio_words(words) {
         None => 5,
-        Some(id) => {
-            let end = run_session(alloc, id, source, sink);
+        Some((options, id)) => {
+            let end = run_session(alloc, options, id, source, sink);
             status_of(end)
         }
     }

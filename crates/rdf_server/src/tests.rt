@@ -131,7 +131,7 @@ fn other_requests_are_no_resource(rt: HostRuntime) -> Result<(), Memory> {
     let gone = refused(alloc, "404 Not Found", "", "no such resource")?;
     for head in [
         "GET /rdf4j-server/repositories/other/statements HTTP/1.1",
-        "GET /rdf4j-server/repositories/r/statements?x=y HTTP/1.1",
+        "GET /rdf4j-server/repositories/r/statements/?x=y HTTP/1.1",
         "get /rdf4j-server/repositories/r/statements HTTP/1.1",
         "PUT /rdf4j-server/repositories/r/statements HTTP/1.1",
         "POST /rdf4j-server/repositories/r/statements HTTP/1.1",
@@ -241,6 +241,187 @@ fn other_words_are_refused(rt: HostRuntime) -> Result<(), Memory> {
     assert!(rt; are_refused(alloc, &["stdio", "r/s"])?);
     assert!(rt; are_refused(alloc, &["stdio", long])?);
     assert!(rt; !are_refused(alloc, &["stdio", short])?);
+    Ok(())
+}
+
+#[test]
+fn one_to_six_distinct_orders_are_options(rt: HostRuntime) -> Result<(), Memory> {
+    let alloc = rt.alloc();
+    let six = [
+        "stdio", "--order", "spoc", "--order", "posc", "--order", "ospc", "--order", "cspo",
+        "--order", "cosp", "--order", "opsc", "r",
+    ];
+    let seven = [
+        "stdio", "--order", "spoc", "--order", "posc", "--order", "ospc", "--order", "cspo",
+        "--order", "cosp", "--order", "opsc", "--order", "pcso", "r",
+    ];
+    assert!(rt; !are_refused(alloc, &["stdio", "--order", "cpos", "r"])?);
+    assert!(rt; !are_refused(alloc, &six)?);
+    assert!(rt; are_refused(alloc, &seven)?);
+    assert!(rt; are_refused(alloc, &["stdio", "--order", "spoc", "--order", "spoc", "r"])?);
+    assert!(rt; are_refused(alloc, &["stdio", "--order", "spo", "r"])?);
+    assert!(rt; are_refused(alloc, &["stdio", "--order", "SPOC", "r"])?);
+    assert!(rt; are_refused(alloc, &["stdio", "--order", "r"])?);
+    assert!(rt; are_refused(alloc, &["stdio", "r", "--order", "spoc"])?);
+    assert!(rt; are_refused(alloc, &["stdio", "--Order", "spoc", "r"])?);
+    Ok(())
+}
+
+const THREE: &str =
+    "<http://e/s> <http://e/p> \"1\" .\n<http://e/s> <http://e/p> \"2\" <http://e/g1> .\n<http://e/s> <http://e/q> \"3\" <http://e/g2> .\n";
+
+/// A request on the statements with a document of N-Quads.
+fn write(alloc: Global, method: &str, query: &str, document: &str) -> Result<String, Memory> {
+    let length = document.len();
+    Ok(format!(in alloc;
+        "{method} /rdf4j-server/repositories/r/statements{query} HTTP/1.1\r\nContent-Type: application/n-quads\r\nContent-Length: {length}\r\n\r\n{document}"
+    )?)
+}
+
+/// A listing of these lines.
+fn listing(alloc: Global, lines: &str) -> Result<String, Memory> {
+    let length = lines.len();
+    Ok(format!(in alloc;
+        "HTTP/1.1 200 OK\r\nContent-Type: application/n-quads\r\nContent-Length: {length}\r\n\r\n{lines}"
+    )?)
+}
+
+/// Whether a request behind the upload of the three lines, and then a listing of everything, are answered so.
+fn is_answered(alloc: Global, request: &str, answer: &str, lines: &str) -> Result<bool, Memory> {
+    let upload = write(alloc, "POST", "", THREE)?;
+    let input = format!(in alloc; "{upload}{request}{LIST}")?;
+    let left = listing(alloc, lines)?;
+    let want = format!(in alloc; "{NO_CONTENT}{answer}{left}")?;
+    let ran = run(
+        alloc,
+        &["stdio", "--order", "posc", "r"],
+        input.as_str(),
+        CALM,
+    )?;
+    Ok(ran.status == 0 && ran.taken.as_str() == want.as_str())
+}
+
+#[test]
+fn put_with_two_contexts_leaves_three_lines(rt: HostRuntime) -> Result<(), Memory> {
+    let alloc = rt.alloc();
+    let nine = "<http://e/s> <http://e/p> \"9\" .\n";
+    let query = "?context=null&context=%3Chttp%3A%2F%2Fe%2Fg1%3E&context=null";
+    let request = write(alloc, "PUT", query, nine)?;
+    let left =
+        "<http://e/s> <http://e/p> \"9\" .\n<http://e/s> <http://e/p> \"9\" <http://e/g1> .\n<http://e/s> <http://e/q> \"3\" <http://e/g2> .\n";
+    assert!(rt; is_answered(alloc, request.as_str(), NO_CONTENT, left)?);
+    let request = write(alloc, "PUT", "", nine)?;
+    assert!(rt; is_answered(alloc, request.as_str(), NO_CONTENT, nine)?);
+    Ok(())
+}
+
+#[test]
+fn post_adds_in_each_context(rt: HostRuntime) -> Result<(), Memory> {
+    let alloc = rt.alloc();
+    let line = "<http://e/a> <http://e/p> \"9\" <http://e/own> .\n";
+    let request = write(alloc, "POST", "?context=_:b&context=<http://e/g>", line)?;
+    let left = format!(in alloc;
+        "<http://e/a> <http://e/p> \"9\" <http://e/g> .\n<http://e/a> <http://e/p> \"9\" _:b .\n{THREE}"
+    )?;
+    assert!(rt; is_answered(alloc, request.as_str(), NO_CONTENT, left.as_str())?);
+    Ok(())
+}
+
+#[test]
+fn delete_removes_what_is_selected(rt: HostRuntime) -> Result<(), Memory> {
+    let alloc = rt.alloc();
+    for (query, left) in [
+        ("", ""),
+        (
+            "?context=null",
+            "<http://e/s> <http://e/p> \"2\" <http://e/g1> .\n<http://e/s> <http://e/q> \"3\" <http://e/g2> .\n",
+        ),
+        (
+            "?pred=%3Chttp%3A%2F%2Fe%2Fp%3E",
+            "<http://e/s> <http://e/q> \"3\" <http://e/g2> .\n",
+        ),
+        (
+            "?obj=%221%22&obj2=x",
+            "<http://e/s> <http://e/p> \"2\" <http://e/g1> .\n<http://e/s> <http://e/q> \"3\" <http://e/g2> .\n",
+        ),
+        ("?subj=_:none", THREE),
+    ] {
+        let request = format!(in alloc;
+            "DELETE /rdf4j-server/repositories/r/statements{query} HTTP/1.1\r\n\r\n"
+        )?;
+        assert!(rt;
+            is_answered(alloc, request.as_str(), NO_CONTENT, left)?,
+            "{query}"
+        );
+    }
+    Ok(())
+}
+
+#[test]
+fn get_lists_what_is_selected(rt: HostRuntime) -> Result<(), Memory> {
+    let alloc = rt.alloc();
+    let third = "<http://e/s> <http://e/q> \"3\" <http://e/g2> .\n";
+    for (query, lines) in [
+        ("?infer=true", THREE),
+        ("?subj=%3Chttp://e/s%3E", THREE),
+        ("?pred=<http://e/q>", third),
+        ("?obj=%223%22&context=<http://e/g2>&context=null", third),
+        ("?context=null", "<http://e/s> <http://e/p> \"1\" .\n"),
+        ("?obj=%223%22@en", ""),
+    ] {
+        let request = format!(in alloc;
+            "GET /rdf4j-server/repositories/r/statements{query} HTTP/1.1\r\n\r\n"
+        )?;
+        let answer = listing(alloc, lines)?;
+        assert!(rt;
+            is_answered(alloc, request.as_str(), answer.as_str(), THREE)?,
+            "{query}"
+        );
+    }
+    Ok(())
+}
+
+#[test]
+fn the_first_bad_parameter_is_named(rt: HostRuntime) -> Result<(), Memory> {
+    let alloc = rt.alloc();
+    for (method, query, name) in [
+        ("GET", "?subj=x", "subj"),
+        ("GET", "?pred=_:b&obj=x", "pred"),
+        ("DELETE", "?context=x&obj=%22", "obj"),
+        ("DELETE", "?context=null&context=x", "context"),
+        ("DELETE", "?subj=_:a&subj=_:a", "subj"),
+        ("POST", "?subj=x&context=%22a%22", "context"),
+        ("PUT", "?context=", "context"),
+    ] {
+        let request = write(alloc, method, query, "x")?;
+        let text = format!(in alloc; "bad parameter {name}")?;
+        let answer = refused(alloc, "400 Bad Request", "", text.as_str())?;
+        assert!(rt;
+            is_answered(alloc, request.as_str(), answer.as_str(), THREE)?,
+            "{query}"
+        );
+    }
+    Ok(())
+}
+
+#[test]
+fn many_uploads_are_folded(rt: HostRuntime) -> Result<(), Memory> {
+    let alloc = rt.alloc();
+    let mut input = String::new(alloc);
+    let mut lines = String::new(alloc);
+    for number in 1_000..4_000u32 {
+        let line = format!(in alloc; "<http://e/s{number}> <http://e/p> \"{number}\" .\n")?;
+        lines.push_str(line.as_str())?;
+        input.push_str(write(alloc, "POST", "", line.as_str())?.as_str())?;
+    }
+    input.push_str(LIST)?;
+    let ran = run(alloc, &["stdio", "r"], input.as_str(), CALM)?;
+    assert_eq!(rt; ran.status, 0);
+    assert!(rt;
+        ran.taken
+            .as_str()
+            .ends_with(listing(alloc, lines.as_str())?.as_str())
+    );
     Ok(())
 }
 

@@ -1,10 +1,11 @@
 -- Worked cases of the definitions, by computation.
-use Rattle.std.proofs.Common.{◌≡◌, refl, [], ◌∷◌, true, false, codes}
+use Rattle.std.proofs.Common.{◌≡◌, refl, [], ◌∷◌, Option, Some, None, true, false, codes}
+use Rattle.rdf_term.specs.declared.term.Term.{Term}
 use Rattle.rdf_term.specs.declared.term.Term.TheVariants.{Iri, Blank, Plain, Tagged}
 use Rattle.rdf_term.specs.declared.graph.Graph.TheVariants.{Absent, Named}
 use Rattle.rdf_term.specs.Statement.{Statement}
 use Rattle.rdf_term.specs.Canonical.{canonical_line}
-use Rattle.rdf_term.specs.Sets.{in_order}
+use Rattle.rdf_term.specs.Sets.{in_order, rows_in_order}
 use Rattle.rdf_term.specs.Validity.{is_valid}
 use Rattle.std.specs.declared.cmp.Ordering.TheVariants.{Less}
 use Rattle.rdf_term.specs.Order.{quad_cmp}
@@ -36,3 +37,15 @@ valid = (refl, refl, refl)
 invalid : (is_valid (Blank (codes "a.")) ≡ false) × (is_valid (Tagged (codes "a") (codes "en-")) ≡ false) × (is_valid (Iri (codes "x")) ≡ false)
 unfolding lib.Utf8.encode
 invalid = (refl, refl, refl)
+
+-- a tag in capitals comes before the same in small letters, and a row with nothing in a column before one with a term there
+abbrev tagged : Option Term
+tagged = Some (Tagged (codes "a") (codes "en"))
+
+abbrev in_capitals : Option Term
+in_capitals = Some (Tagged (codes "a") (codes "EN"))
+
+rows_ordered : rows_in_order ((tagged ∷ tagged ∷ []) ∷ (in_capitals ∷ []) ∷ (tagged ∷ None ∷ []) ∷ (tagged ∷ []) ∷ (tagged ∷ []) ∷ (None ∷ tagged ∷ []) ∷ [])
+    ≡ (None ∷ tagged ∷ []) ∷ (in_capitals ∷ []) ∷ (tagged ∷ []) ∷ (tagged ∷ []) ∷ (tagged ∷ None ∷ []) ∷ (tagged ∷ tagged ∷ []) ∷ []
+unfolding lib.Utf8.encode
+rows_ordered = refl

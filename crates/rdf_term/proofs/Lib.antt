@@ -3,4 +3,5 @@ pub mod DistinctLemmas
 pub mod Examples
 pub mod Same
 pub mod SetLemmas
+pub mod SortLemmas
 pub mod WritingLemmas

@@ -1,5 +1,5 @@
 -- Lists of distinct items.
-use Rattle.std.specs.Prelude.{◌≡◌, ◌≢◌, ℕ, ◌<◌, List, length, slice_index_or}
+use Rattle.std.specs.Prelude.{◌≢◌, ℕ, ◌<◌, List, length, slice_index_or}
 
 -- no item stands at two places
 abbrev pub EachOnce : {X : Type 0} → List X → Type 0

@@ -1,6 +1,8 @@
--- The order of terms, graphs and quads.
-use Rattle.std.specs.Prelude.{ℕ, List, []}
+-- The order of terms, graphs, quads and rows.
+use Rattle.std.specs.Prelude.{List, Option}
+use Rattle.std.specs.Option.{option_cmp}
 use Rattle.std.specs.Ordering.{on, then_cmp, nat_cmp}
+use Rattle.std.specs.Cmp.Lexicographic.{slice_cmp}
 use Rattle.std.specs.declared.cmp.Ordering.{Ordering}
 use Rattle.std.specs.declared.cmp.Ordering.TheVariants.{Less, Equal, Greater}
 use Rattle.rdf_term.specs.declared.term.Term.{Term}
@@ -25,3 +27,7 @@ graph_cmp (Named t) (Named u) = term_cmp t u
 abbrev pub quad_cmp : Statement → Statement → Ordering
 quad_cmp = then_cmp (on (λ q. q.s) term_cmp) (then_cmp (on (λ q. q.p) term_cmp)
     (then_cmp (on (λ q. q.o) term_cmp) (on (λ q. q.c) graph_cmp)))
+
+-- rows are ordered column by column, an unbound place before every term, and a row before every longer one that it begins
+abbrev pub row_cmp : List (Option Term) → List (Option Term) → Ordering
+row_cmp = slice_cmp (option_cmp term_cmp)

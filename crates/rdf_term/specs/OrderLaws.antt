@@ -1,9 +1,10 @@
 -- The orders are total, and two values tie only where they are equal.
-use Rattle.std.specs.Prelude.{◌≡◌, ℕ, List, [], ◌∷◌, refl, encode_utf8_all}
+use Rattle.std.specs.Prelude.{◌≡◌, ℕ, List, [], ◌∷◌, Some, None, refl, encode_utf8_all}
+use Rattle.std.specs.Option.{option_cmp}
 use Rattle.std.proofs.Common.{sym, ◌∙◌, ap, subst, suc, zero}
-use Rattle.std.specs.Ordering.{on, then_cmp, ordering_then, nat_cmp}
+use Rattle.std.specs.Ordering.{on, ordering_then}
 use Rattle.std.specs.Cmp.{IsTotalOrder}
-use Rattle.std.specs.Cmp.Lexicographic.{slice_cmp}
+use Rattle.std.specs.Cmp.Lexicographic.{slice_cmp, options_total}
 use Rattle.std.specs.declared.cmp.Ordering.{Ordering}
 use Rattle.std.specs.declared.cmp.Ordering.TheVariants.{Less, Equal, Greater}
 use Rattle.std.proofs.lemmas.Cmp.{on_total, then_total, nat_cmp_total, lists_total}
@@ -15,8 +16,7 @@ use Rattle.rdf_term.specs.declared.graph.Graph.{Graph}
 use Rattle.rdf_term.specs.declared.graph.Graph.TheVariants.{Absent, Named}
 use Rattle.rdf_term.specs.TextOrder.{text_cmp, text_total}
 use Rattle.rdf_term.specs.Terms.{kind, first, second}
-use Rattle.rdf_term.specs.Statement.{Statement}
-use Rattle.rdf_term.specs.Order.{term_cmp, graph_cmp, quad_cmp}
+use Rattle.rdf_term.specs.Order.{term_cmp, graph_cmp, quad_cmp, row_cmp}
 
 -- total orders
 
@@ -45,6 +45,9 @@ graph_total = subst IsTotalOrder (λ i g h. by_names g h i) (on_total names (lis
 pub quad_total : IsTotalOrder quad_cmp
 quad_total = then_total (on_total (λ q. q.s) term_total) (then_total (on_total (λ q. q.p) term_total)
     (then_total (on_total (λ q. q.o) term_total) (on_total (λ q. q.c) graph_total)))
+
+pub row_total : IsTotalOrder row_cmp
+row_total = lists_total (options_total term_total)
 
 -- only a value itself is as high as it
 
@@ -93,3 +96,20 @@ quad_exact x y e =
     let b = both_Equal _ _ a.1 in
     let d = both_Equal _ _ b.1 in
     λ i. record { s = term_exact x.s y.s a.0 i; p = term_exact x.p y.p b.0 i; o = term_exact x.o y.o d.0 i; c = graph_exact x.c y.c d.1 i }
+
+option_exact : {X : Type 0} {R : X → X → Ordering} → CmpEqualImpliesEq R → CmpEqualImpliesEq (option_cmp R)
+option_exact exact None None e = refl
+option_exact exact None (Some y) e = cc
+option_exact exact (Some x) None e = cc
+option_exact exact (Some x) (Some y) e = ap Some (exact x y e)
+
+list_exact : {X : Type 0} {R : X → X → Ordering} → CmpEqualImpliesEq R → CmpEqualImpliesEq (slice_cmp R)
+list_exact exact [] [] e = refl
+list_exact exact [] (y ∷ ys) e = cc
+list_exact exact (x ∷ xs) [] e = cc
+list_exact exact (x ∷ xs) (y ∷ ys) e =
+    let a = both_Equal _ _ e in
+    λ i. exact x y a.0 i ∷ list_exact exact xs ys a.1 i
+
+pub row_exact : CmpEqualImpliesEq row_cmp
+row_exact = list_exact (option_exact term_exact)

@@ -1,6 +1,6 @@
 -- The order of texts.
-use Rattle.std.specs.Prelude.{◌≡◌, ℕ, List, Bool, encode_utf8_all, refl}
-use Rattle.std.specs.Ordering.{on, nat_cmp, is_eq}
+use Rattle.std.specs.Prelude.{ℕ, List, encode_utf8_all}
+use Rattle.std.specs.Ordering.{on, nat_cmp}
 use Rattle.std.specs.Cmp.{IsTotalOrder}
 use Rattle.std.specs.Cmp.Lexicographic.{slice_cmp}
 use Rattle.std.specs.declared.cmp.Ordering.{Ordering}

@@ -2,7 +2,8 @@ ghost use Rattle.std.specs.Prelude.{◌≡◌, [], ◌∷◌, ◌++◌, length, 
 ghost use Rattle.std.specs.Option.{option_copied};
 ghost use Rattle.rdf_term.specs.EachOnce.{EachOnce};
 
-use crate::Memory;
+use crate::seq::copied;
+use crate::{Duplicate, Memory};
 use std::alloc::Global;
 use std::marker::Model;
 
@@ -68,5 +69,13 @@ impl<T: Drop> Distinct<T> {
     {
         self.items.push(item)?;
         Ok(())
+    }
+}
+
+impl<T: Duplicate> Duplicate for Distinct<T> {
+    fn copy(&self, alloc: Global) -> Result<Distinct<T>, Memory> {
+        Ok(Distinct {
+            items: copied(alloc, self.items.as_slice())?,
+        })
     }
 }

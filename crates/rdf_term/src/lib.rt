@@ -6,12 +6,14 @@
 #![tactic(auto)]
 
 mod bytes;
+mod compared;
 mod distinct;
 mod graph;
 mod memory;
 mod pattern;
 mod quad;
 mod quads;
+mod rows;
 mod scan;
 mod seq;
 mod term;
@@ -32,3 +34,9 @@ pub use text::Text;
 
 /// A list of quads.
 pub type Quads = Seq<Quad>;
+
+/// A row of a table: a term for each column, or none where the column is unbound.
+pub type Row = Seq<Option<Term>>;
+
+/// A list of rows.
+pub type Rows = Seq<Row>;

@@ -1,7 +1,8 @@
 ghost use Rattle.std.specs.Prelude.{◌≡◌, ◌↔◌, IsTrue, IfSome};
 ghost use Rattle.rdf_term.specs.Matching.{Matches, Picks, matches, fits, picks_graph};
 
-use crate::{Graph, Quad, Term};
+use crate::{Duplicate, Graph, Memory, Quad, Term};
+use std::alloc::Global;
 
 /// Which graphs a pattern picks.
 #[derive(Debug, Drop)]
@@ -57,5 +58,26 @@ impl Pattern {
             && has(&self.p, quad.p())
             && has(&self.o, quad.o())
             && self.c.picks(quad.c())
+    }
+}
+
+impl Duplicate for GraphPick {
+    fn copy(&self, alloc: Global) -> Result<GraphPick, Memory> {
+        Ok(match self {
+            GraphPick::Any => GraphPick::Any,
+            GraphPick::NamedOnly => GraphPick::NamedOnly,
+            GraphPick::One(graph) => GraphPick::One(graph.copy(alloc)?),
+        })
+    }
+}
+
+impl Duplicate for Pattern {
+    fn copy(&self, alloc: Global) -> Result<Pattern, Memory> {
+        Ok(Pattern {
+            s: self.s.copy(alloc)?,
+            p: self.p.copy(alloc)?,
+            o: self.o.copy(alloc)?,
+            c: self.c.copy(alloc)?,
+        })
     }
 }

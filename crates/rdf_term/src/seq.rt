@@ -97,13 +97,22 @@ impl<T: Drop> Seq<T> {
     }
 }
 
+/// Items equal to these.
+pub(crate) fn copied<T: Duplicate>(alloc: Global, items: &[T]) -> Result<Vec<T>, Memory>
+    ensures { IfOk result (λ out. out.items ≡ items.now) }
+{
+    let mut out = Vec::new(alloc);
+    for item in items {
+        out.push(item.copy(alloc)?)?;
+    }
+    Ok(out)
+}
+
 impl<T: Duplicate> Duplicate for Seq<T> {
     fn copy(&self, alloc: Global) -> Result<Seq<T>, Memory> {
-        let mut out = Vec::new(alloc);
-        for item in self.items.iter() {
-            out.push(item.copy(alloc)?)?;
-        }
-        Ok(Seq { items: out })
+        Ok(Seq {
+            items: copied(alloc, self.items.as_slice())?,
+        })
     }
 }
 

@@ -1,7 +1,7 @@
 //! What no clause says: that each call finds memory, and worked values.
 use crate::{
-    Bytes, Distinct, Duplicate, Graph, GraphPick, Memory, Pattern, Quad, Quads, Seq, Term,
-    TermFault, Text,
+    Bytes, Distinct, Duplicate, Graph, GraphPick, Memory, Pattern, Quad, Quads, Row, Rows, Seq,
+    Term, TermFault, Text,
 };
 use std::alloc::Global;
 
@@ -105,9 +105,49 @@ fn patterns_pick_by_part_and_graph(rt: HostRuntime) -> Result<(), Memory> {
             p: None,
             o: Some(iri(alloc, "urn:s")?),
             c: pick,
-        };
+        }
+        .copy(alloc)?;
         assert_eq!(rt; pattern.matches(&plain), on_plain);
         assert_eq!(rt; pattern.matches(&named), on_named);
     }
+    Ok(())
+}
+
+#[test]
+fn texts_are_made_of_characters(rt: HostRuntime) -> Result<(), Memory> {
+    let alloc = rt.alloc();
+    let mut text = Text::from_char_slice(alloc, ['a', 'é'].as_slice())?;
+    text.append("–😀")?;
+    let text = text.with_chars(['b'].as_slice())?;
+    assert!(rt; text == Text::from_chars(alloc, "aé–😀b")?);
+    Ok(())
+}
+
+/// A table of two columns, where an empty text stands for none.
+fn table(alloc: Global, columns: [[&str; 2]; 4]) -> Result<Rows, Memory> {
+    let mut rows = Rows::new(alloc);
+    for [first, second] in columns {
+        let mut row = Row::new(alloc);
+        row.push(place(alloc, first)?)?;
+        row.push(place(alloc, second)?)?;
+        rows.push(row)?;
+    }
+    Ok(rows)
+}
+
+fn place(alloc: Global, text: &str) -> Result<Option<Term>, Memory> {
+    if text.is_empty() {
+        return Ok(None);
+    }
+    Ok(Some(iri(alloc, text)?))
+}
+
+#[test]
+fn rows_are_sorted_column_by_column(rt: HostRuntime) -> Result<(), Memory> {
+    let alloc = rt.alloc();
+    let rows = table(alloc, [["b:", ""], ["a:", "c:"], ["", "z:"], ["a:", ""]])?;
+    let sorted = table(alloc, [["", "z:"], ["a:", ""], ["a:", "c:"], ["b:", ""]])?;
+    assert!(rt; rows != sorted);
+    assert!(rt; rows.into_sorted()? == sorted);
     Ok(())
 }

@@ -1,5 +1,6 @@
 ghost use Rattle.std.specs.Prelude.{◌≡◌, [], ◌∷◌, ◌++◌, IfOk, OnOk, OnErr, encode_utf8_all, IsTrue, ◌↔◌};
 ghost use Rattle.std.specs.Prelude.{refl};
+ghost use Rattle.std.specs.Str.{chars};
 ghost use Rattle.std.specs.Ordering.{eq_by_cmp, as_partial_cmp};
 ghost use Rattle.std.specs.Cmp.{partial_equiv_from_equiv, partial_order_from_total};
 ghost use Rattle.std.proofs.lemmas.Cmp.{eq_by_cmp_equiv};
@@ -45,6 +46,36 @@ impl Text {
         })
     }
 
+    /// A text of these characters.
+    ///
+    /// Memory is taken once where they are ASCII characters.
+    pub fn from_char_slice(alloc: Global, characters: &[char]) -> Result<Text, Memory>
+        ensures { IfOk result (λ it. it ≡ characters.now) }
+    {
+        Text::new(alloc).with_chars(characters)
+    }
+
+    /// The text with these characters at its end.
+    ///
+    /// Room for as many bytes is made at once.
+    pub fn with_chars(mut self, characters: &[char]) -> Result<Text, Memory>
+        ensures { IfOk result (λ it. it ≡ self ++ characters.now) }
+    {
+        self.room(characters.len())?;
+        for character in characters {
+            self.push(*character)?;
+        }
+        Ok(self)
+    }
+
+    /// Makes room for so many bytes more.
+    fn room(&mut self, count: usize) -> Result<(), Memory>
+        ensures { self.new ≡ self.old }
+    {
+        self.bytes.reserve(count)?;
+        Ok(())
+    }
+
     /// The text in UTF-8.
     pub fn as_str(&self) -> &str
         ensures { result.now ≡ encode_utf8_all self.now }
@@ -58,6 +89,15 @@ impl Text {
         ensures memory { OnErr result (self.new ≡ self.old) }
     {
         self.bytes.push(character)?;
+        Ok(())
+    }
+
+    /// Adds the characters of another text at the end. Without memory the text stays as it was.
+    pub fn append(&mut self, more: &str) -> Result<(), Memory>
+        ensures ok { OnOk result (self.new ≡ self.old ++ chars more.now) }
+        ensures memory { OnErr result (self.new ≡ self.old) }
+    {
+        self.bytes.push_str(more)?;
         Ok(())
     }
 

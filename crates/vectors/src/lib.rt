@@ -14,6 +14,8 @@ mod faults;
 mod graphs;
 mod iris;
 mod labels;
+#[cfg(test)]
+mod large_tests;
 mod lines;
 mod literals;
 #[cfg(test)]

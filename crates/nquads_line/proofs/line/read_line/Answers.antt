@@ -1,8 +1,6 @@
-use Rattle.std.proofs.Common.{◌≡◌, ◌∙◌, ap, sym, Option, Some, None, IsErrOf, rules, true, false}
+use Rattle.std.proofs.Common.{◌≡◌, ◌∙◌, ap, sym, Some, None, rules, true, false}
 use Rattle.std.specs.Str.{chars}
-use Rattle.std.proofs.lemmas.Str.{chars_from_encodes}
 use Rattle.std.proofs.lemmas.Result.{err_from_is_err_and}
-use Rattle.rdf_term.specs.Statement.{Statement}
 use Rattle.nquads_line.specs.Grammar.{IsLine}
 use Rattle.nquads_line.specs.declared.fault.LineFault.TheVariants.{Bad}
 use Rattle.nquads_line.proofs.Steps.{fails_bad}
@@ -14,14 +12,14 @@ pub returns-in_err-line_of-clause-bad : goal.returns-in_err-line_of-clause-bad
 returns-in_err-line_of-clause-bad c =
     λ h q line.
     let p = err_from_is_err_and c.from_residual-in_err-line_of.result c.from_residual-in_err-line_of.ensures.1 in
-    let got : c.in_ok-chars.chars.items ≡ chars c.args.line.now = search (rules, chars_from_encodes) in
+    let got : c.in_ok-chars.chars.items ≡ chars c.args.line.now = search rules in
     let bad : c.in_err-line_of.field-0.0 ≡ Bad = (let e1 = p.1 in let e2 = p.2 in let e3 = h in cc) in
     line_refused c.args.kind c.args.line.now c.as_slice.result.now c.in-Ok.ensures.cases.1 (c.as_slice.ensures.value ∙ got)
     (fails_bad _ _ bad c.in_err-line_of.ensures) q line
 
 pub returns-in-None-clause-ok : goal.returns-in-None-clause-ok
 returns-in-None-clause-ok c =
-    let got : c.in_ok-chars.chars.items ≡ chars c.args.line.now = search (rules, chars_from_encodes) in (
+    let got : c.in_ok-chars.chars.items ≡ chars c.args.line.now = search rules in (
       line_read c.args.kind c.args.line.now c.as_slice.result.now None c.in-Ok.ensures.cases.1 (c.as_slice.ensures.value ∙ got)
           (c.in_ok-line_of.ensures ∙ ap Some c.in-None.is),
       tt,
@@ -30,7 +28,7 @@ returns-in-None-clause-ok c =
 
 pub returns-then-is_short_quad-clause-ok : goal.returns-then-is_short_quad-clause-ok
 returns-then-is_short_quad-clause-ok c =
-    let got : c.in_ok-chars.chars.items ≡ chars c.args.line.now = search (rules, chars_from_encodes) in
+    let got : c.in_ok-chars.chars.items ≡ chars c.args.line.now = search rules in
     let read : IsLine c.args.kind c.args.line.now (Some c.in-Some.quad) =
     line_read c.args.kind c.args.line.now c.as_slice.result.now (Some c.in-Some.quad) c.in-Ok.ensures.cases.1 (c.as_slice.ensures.value ∙ got)
     (c.in_ok-line_of.ensures ∙ ap Some c.in-Some.is) in
@@ -40,7 +38,7 @@ returns-then-is_short_quad-clause-ok c =
 pub returns-clause-long : goal.returns-clause-long
 returns-clause-long c =
     λ _.
-    let got : c.in_ok-chars.chars.items ≡ chars c.args.line.now = search (rules, chars_from_encodes) in
+    let got : c.in_ok-chars.chars.items ≡ chars c.args.line.now = search rules in
     let read : IsLine c.args.kind c.args.line.now (Some c.in-Some.quad) =
     line_read c.args.kind c.args.line.now c.as_slice.result.now (Some c.in-Some.quad) c.in-Ok.ensures.cases.1 (c.as_slice.ensures.value ∙ got)
     (c.in_ok-line_of.ensures ∙ ap Some c.in-Some.is) in

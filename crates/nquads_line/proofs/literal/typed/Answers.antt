@@ -1,4 +1,4 @@
-use Rattle.std.proofs.Common.{◌≡◌, sym, ◌∙◌, ap, Bool, true, false}
+use Rattle.std.proofs.Common.{◌≡◌, sym, ◌∙◌, ap, true, false}
 use Rattle.std.specs.Str.{bytes_eq}
 use Rattle.rdf_term.specs.Validity.{xsd_string}
 use Rattle.nquads_line.proofs.ReadLemmas.{xsd_same}

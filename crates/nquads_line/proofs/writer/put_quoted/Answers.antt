@@ -1,7 +1,6 @@
-use Rattle.std.proofs.Common.{◌≡◌, ◌++◌, [], ◌∷◌, sym, ◌∙◌, ap, codes, encode_utf8_all, append_assoc}
+use Rattle.std.proofs.Common.{◌≡◌, ◌++◌, sym, ◌∙◌, ap, codes, encode_utf8_all, append_assoc}
 use Rattle.std.specs.List.{flat_map}
 use Rattle.rdf_term.specs.Canonical.{escaped}
-use Rattle.rdf_term.specs.Writing.{Appends}
 use Rattle.rdf_term.proofs.WritingLemmas.{then_appends, appends_of}
 use Rattle.nquads_line.proofs.WriteLemmas.{quoted_bytes}
 use Rattle.nquads_line.proofs.writer.put_quoted.Goals as goal

@@ -1,5 +1,5 @@
-use Rattle.std.proofs.Common.{◌≡◌, ◌++◌, [], ◌∷◌, sym, ◌∙◌, ap, codes, encode_utf8_all, append_assoc, subst}
-use Rattle.rdf_term.specs.Canonical.{escaped, quoted, term_text}
+use Rattle.std.proofs.Common.{sym, subst}
+use Rattle.rdf_term.specs.Canonical.{quoted}
 use Rattle.rdf_term.specs.Writing.{Appends}
 use Rattle.rdf_term.proofs.WritingLemmas.{then_appends}
 use Rattle.nquads_line.proofs.WriteLemmas.{iri_bytes, tag_bytes, type_bytes}

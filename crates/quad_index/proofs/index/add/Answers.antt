@@ -1,4 +1,4 @@
-use Rattle.std.proofs.Common.{◌≡◌, subst, arith, length}
+use Rattle.std.proofs.Common.{subst, arith}
 use Rattle.quad_index.specs.Contents.{EachSet, Drops}
 use Rattle.quad_index.proofs.SetsLemmas.{may_drop, add_drop, on_err}
 use Rattle.quad_index.proofs.index.add.Goals as goal

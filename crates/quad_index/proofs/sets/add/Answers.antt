@@ -1,6 +1,6 @@
-use Rattle.std.proofs.Common.{◌≡◌, ◌<◌, subst, arith, length, get_or}
+use Rattle.std.proofs.Common.{◌<◌, subst, arith, length, get_or}
 use Rattle.quad_index.specs.Contents.{Arranged, Adds}
-use Rattle.quad_index.proofs.SetsLemmas.{UpTo-step, UpTo-may, next_is}
+use Rattle.quad_index.proofs.SetsLemmas.{UpTo-step, next_is}
 use Rattle.quad_index.proofs.sets.add.Goals as goal
 
 pub loop-place-preserved : goal.loop-place-preserved

@@ -1,4 +1,4 @@
-use Rattle.std.proofs.Common.{◌≡◌, ℕ, ◌<◌, ◌≤◌, get_or, length}
+use Rattle.std.proofs.Common.{◌≡◌, ℕ, ◌<◌, ◌≤◌, get_or}
 use Rattle.quad_index.specs.Contents.{Arranged}
 use Rattle.quad_index.specs.Letters.{run}
 use Rattle.quad_index.proofs.sets.best.Given as goal

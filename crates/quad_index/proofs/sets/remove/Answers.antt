@@ -1,4 +1,4 @@
-use Rattle.std.proofs.Common.{◌≡◌, ◌<◌, ◌∙◌, subst, arith, length, get_or}
+use Rattle.std.proofs.Common.{◌<◌, ◌∙◌, subst, arith, length, get_or}
 use Rattle.quad_index.specs.Contents.{Arranged, Drops}
 use Rattle.quad_index.proofs.SetsLemmas.{UpTo-step, next_is}
 use Rattle.quad_index.proofs.sets.remove.Goals as goal

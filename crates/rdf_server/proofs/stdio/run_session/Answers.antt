@@ -1,6 +1,7 @@
 use Rattle.std.proofs.Common.{◌≡◌, List, ℕ, [], ◌++◌, Some, ap, sym, ◌∙◌, refl, subst, append-nil}
 use Rattle.rdf_term.specs.Statement.{Statement}
 use Rattle.http_frame.specs.State.{FramesState}
+use Rattle.rdf_server.specs.Repositories.{Holding}
 use Rattle.rdf_server.specs.Requests.{statements_target}
 use Rattle.rdf_server.specs.Sessions.{IsSession, IsServed, stop}
 use Rattle.rdf_server.specs.declared.session.End.{End}
@@ -23,7 +24,7 @@ returns-in-Err-clause-session g c = λ b t s told. ([], told ∙ ap Some (sym (a
 pub returns-in-Ok-new-clause-session : goal.returns-in-Ok-new-clause-session
 returns-in-Ok-new-clause-session g c = λ b t s told.
     let r = c.serve.ensures.session b t (b, s, sym (ap (λ (f : FramesState). f.held ++ b) c.in-Ok-new.ensures)) told in
-    (r.0, r.1, renewed c.args.id.now b c.in-Ok.repository.target c.in-Ok.repository.quads c.serve.result r.0 c.in-Ok.ensures.target c.in-Ok.ensures.quads r.2)
+    (r.0, r.1, renewed c.args.id.now b c.in-Ok.repository.target c.in-Ok.repository.quads c.serve.result r.0 (ap (λ (it : Holding). it.target) c.in-Ok.ensures) (ap (λ (it : Holding). it.quads) c.in-Ok.ensures) r.2)
 
 pub returns-clause-session : goal.returns-clause-session
 returns-clause-session g c = λ b t s told. ([], told ∙ ap Some (sym (append-nil t)), unserved c.args.id.now b)

@@ -1,4 +1,4 @@
-use Rattle.std.proofs.Common.{◌≡◌, ◌∙◌, ap, map}
+use Rattle.std.proofs.Common.{◌∙◌, ap, map}
 use Rattle.quad_index.specs.Contents.{Arranged}
 use Rattle.quad_index.proofs.SetsLemmas.{whole_empty, orders_made, made}
 use Rattle.quad_index.proofs.index.Index.build.Goals as goal

@@ -1,4 +1,4 @@
-use Rattle.std.proofs.Common.{◌≡◌, ◌∙◌, ap, subst, List}
+use Rattle.std.proofs.Common.{◌∙◌, ap, subst}
 use Rattle.std.proofs.lemmas.List.{get_or_default}
 use Rattle.quad_index.specs.Letters.{IsChosen}
 use Rattle.quad_index.specs.Contents.{Arranged, Contents, IsBest}

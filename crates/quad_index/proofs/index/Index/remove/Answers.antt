@@ -1,4 +1,4 @@
-use Rattle.std.proofs.Common.{◌≡◌, ◌∙◌, ap, sym, subst, true, false, not, List, length, map, take, drop, ◌++◌, arith}
+use Rattle.std.proofs.Common.{◌∙◌, ap, sym, subst, not, length, map, arith}
 use Rattle.std.specs.List.{filter}
 use Rattle.std.specs.Ordering.{eq_by_cmp}
 use Rattle.rdf_term.specs.Order.{quad_cmp}

@@ -1,4 +1,4 @@
-use Rattle.std.proofs.Common.{◌≡◌, ◌∙◌, sym, subst, List, [], ◌∷◌}
+use Rattle.std.proofs.Common.{◌∙◌, sym, subst, List, [], ◌∷◌}
 use Rattle.quad_index.specs.declared.letter.Letter.{Letter}
 use Rattle.quad_index.specs.declared.letter.Letter.TheVariants.{S}
 use Rattle.quad_index.specs.Digests.{digests}

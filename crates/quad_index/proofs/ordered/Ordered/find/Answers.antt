@@ -1,4 +1,4 @@
-use Rattle.std.proofs.Common.{◌≡◌, ◌∙◌, ap}
+use Rattle.std.proofs.Common.{◌∙◌, ap}
 use Rattle.quad_index.specs.Contents.{Arranged, is_in}
 use Rattle.std.specs.Ordering.{is_gt}
 use Rattle.quad_index.specs.Keys.{key_cmp}

@@ -1,7 +1,6 @@
 use Rattle.std.proofs.Common.{◌≡◌, ◌∙◌, ◌||◌, sym, subst, ap}
 use Rattle.std.specs.BTreeSet.{insert_key}
 use Rattle.std.specs.Ordering.{is_eq}
-use Rattle.rdf_term.specs.Statement.{Statement}
 use Rattle.rdf_term.specs.Order.{quad_cmp}
 use Rattle.quad_index.specs.Contents.{Arranged, is_in}
 use Rattle.quad_index.specs.Keys.{key_of, key_cmp}

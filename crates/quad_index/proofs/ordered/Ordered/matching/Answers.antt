@@ -1,4 +1,4 @@
-use Rattle.std.proofs.Common.{◌≡◌, ◌∙◌, ◌++◌, ap}
+use Rattle.std.proofs.Common.{◌∙◌, ◌++◌, ap}
 use Rattle.std.specs.List.{filter}
 use Rattle.rdf_term.specs.Matching.{matches}
 use Rattle.quad_index.specs.Contents.{Arranged}

@@ -1,4 +1,4 @@
-use Rattle.std.proofs.Common.{◌≡◌, ◌∙◌, ◌&&◌, not, sym, subst, ap}
+use Rattle.std.proofs.Common.{◌∙◌, ◌&&◌, not, sym, subst, ap}
 use Rattle.std.specs.Ordering.{is_eq}
 use Rattle.std.specs.BTreeMap.{is_at}
 use Rattle.rdf_term.specs.Order.{quad_cmp}

@@ -1,4 +1,4 @@
-use Rattle.std.proofs.Common.{◌≡◌, ◌∙◌, ap, map, subst, sym}
+use Rattle.std.proofs.Common.{◌∙◌, ap, map, sym}
 use Rattle.std.specs.BTreeSet.{insert_key}
 use Rattle.rdf_term.specs.Order.{quad_cmp}
 use Rattle.quad_index.proofs.ListLemmas.{map-insert_key, sorted-map}

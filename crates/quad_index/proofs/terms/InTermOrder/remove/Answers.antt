@@ -1,4 +1,4 @@
-use Rattle.std.proofs.Common.{◌≡◌, ◌∙◌, ap, map, subst, sym, not}
+use Rattle.std.proofs.Common.{◌∙◌, ap, map, sym, not}
 use Rattle.std.specs.List.{filter}
 use Rattle.std.specs.Ordering.{eq_by_cmp, is_eq}
 use Rattle.rdf_term.specs.Order.{quad_cmp}

@@ -1,0 +1,2 @@
+pub mod SelectionLemmas
+pub mod WriteLemmas

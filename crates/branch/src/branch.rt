@@ -1,0 +1,129 @@
+ghost use Rattle.std.specs.Prelude.{◌≡◌, ◌+◌, ◌≤◌, IfOk, OnOk, OnErr};
+ghost use Rattle.std.specs.List.Sorted.{IsStrictlySortedBy};
+ghost use Rattle.rdf_term.specs.Order.{quad_cmp};
+ghost use Rattle.quad_index.specs.Contents.{is_in};
+ghost use Rattle.change_set.specs.Content.{applied};
+ghost use Rattle.rdf_term.specs.declared.pattern.GraphPick.TheVariants as picks;
+
+use crate::layers;
+use change_set::ChangeSet;
+use quad_index::Index;
+use rdf_term::{GraphPick, Memory, Pattern, Quad, Quads, Scan};
+use std::alloc::Global;
+use std::marker::Model;
+use std::sync::Arc;
+
+/// A set of quads: a base index with change sets above it, all of which other branches may share.
+/// No branch changes what it shares.
+///
+/// Contracts see it as the list of its quads in their order, the orders of its base and the number of
+/// its change sets.
+#[derive(Drop)]
+pub struct Branch {
+    alloc: Global,
+    base: Arc<Index>,
+    layers: Vec<Arc<ChangeSet>>,
+}
+
+impl Model for Branch {
+    ghost use Rattle.std.specs.Prelude.{length, map};
+    ghost use Rattle.std.specs.Arc.{arc_value};
+    ghost use Rattle.std.specs.List.Sorted.{IsStrictlySortedBy};
+    ghost use Rattle.rdf_term.specs.Order.{quad_cmp};
+    ghost use Rattle.branch.specs.Layers.{Layered, layered};
+
+    ghost Value = { Layered };
+
+    ghost view = { λ it. let layers = map arc_value it.layers.items in record { quads = layered it.base.value.quads layers; orders = it.base.value.orders; layers = length layers } };
+
+    ghost invariant = { λ it. IsStrictlySortedBy quad_cmp it.base.value.quads };
+}
+
+/// The pattern that matches every quad.
+fn everything() -> Pattern
+    ensures { result ≡ record { s = None; p = None; o = None; c = picks.Any } }
+{
+    Pattern {
+        s: None,
+        p: None,
+        o: None,
+        c: GraphPick::Any,
+    }
+}
+
+impl Branch {
+    /// A branch with the content of its base.
+    pub fn new(alloc: Global, base: Index) -> Result<Branch, Memory>
+        ensures quads { IfOk result (λ branch. branch.quads ≡ base.quads) }
+        ensures orders { IfOk result (λ branch. branch.orders ≡ base.orders) }
+        ensures layers { IfOk result (λ branch. branch.layers ≡ 0) }
+    {
+        // Its clause says that the quads of an index ascend.
+        let _ = base.len();
+        Ok(Branch {
+            alloc,
+            base: Arc::new(alloc, base)?,
+            layers: Vec::new(alloc),
+        })
+    }
+
+    /// A branch with the same content. It shares the base and the change sets, so that no quad is
+    /// copied, and later calls on the one leave the other as it is.
+    pub fn pin(&self) -> Result<Branch, Memory>
+        ensures { IfOk result (λ branch. branch ≡ self.now) }
+    {
+        Ok(Branch {
+            alloc: self.alloc,
+            base: Arc::try_clone(&self.base)?,
+            layers: layers::share(self.alloc, self.layers.as_slice())?,
+        })
+    }
+
+    /// Applies a change set to the content. Without memory the branch stays as it was.
+    pub fn push(&mut self, set: ChangeSet) -> Result<(), Memory>
+        ensures quads { OnOk result (self.new.quads ≡ applied self.old.quads set) }
+        ensures orders { self.new.orders ≡ self.old.orders }
+        ensures layers { OnOk result (self.new.layers ≤ self.old.layers + 1) }
+        ensures memory { OnErr result (self.new ≡ self.old) }
+    {
+        self.layers.push(Arc::new(self.alloc, set)?)?;
+        Ok(())
+    }
+
+    /// The number of change sets above the base. A scan goes through each of them besides what it
+    /// finds, and a pin shares each, so an owner folds where they have become many.
+    pub fn layers(&self) -> usize
+        ensures { result ≡ self.now.layers }
+    {
+        self.layers.len()
+    }
+
+    /// Whether a quad is in the content. It takes no memory.
+    pub fn holds(&self, quad: &Quad) -> bool
+        ensures value { result ≡ is_in quad.now self.now.quads }
+        ensures ascending { IsStrictlySortedBy quad_cmp self.now.quads }
+    {
+        layers::holds(&self.base, self.layers.as_slice(), quad)
+    }
+
+    /// An index with the content, in the orders of the base.
+    pub fn fold(&self) -> Result<Index, Memory>
+        ensures quads { IfOk result (λ index. index.quads ≡ self.now.quads) }
+        ensures orders { IfOk result (λ index. index.orders ≡ self.now.orders) }
+    {
+        let base = &self.base;
+        let quads = self.scan(self.alloc, &everything())?;
+        let index = base.with_quads(self.alloc, &quads)?;
+        Ok(index)
+    }
+}
+
+impl Scan for Branch {
+    ghost content = { λ branch. branch.quads };
+
+    fn scan(&self, alloc: Global, pattern: &Pattern) -> Result<Quads, Memory> {
+        let found = self.base.scan(alloc, pattern)?;
+        let found = layers::found_in(alloc, pattern, found, self.layers.as_slice())?;
+        Ok(found)
+    }
+}

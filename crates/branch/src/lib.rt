@@ -1,0 +1,12 @@
+//! Sets of quads that share a base index and the change sets above it.
+//!
+//! Contracts see a [`Branch`] as its set of quads, a strictly ascending list, beside the orders of its
+//! base and the number of its change sets.
+#![tactic(auto)]
+
+mod branch;
+mod layers;
+#[cfg(test)]
+mod tests;
+
+pub use branch::Branch;
