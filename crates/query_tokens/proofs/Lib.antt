@@ -1,0 +1,12 @@
+pub mod Apart
+pub mod Back
+pub mod Best
+pub mod Cases
+pub mod Examples
+pub mod Fore
+pub mod Longest
+pub mod PlaceLemmas
+pub mod Prefixes
+pub mod ReadLemmas
+pub mod Tails
+pub mod Unique

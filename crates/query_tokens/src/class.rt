@@ -1,0 +1,166 @@
+ghost use Rattle.std.specs.Prelude.{◌≡◌};
+ghost use Rattle.rdf_term.specs.Classes.{is_digit, is_letter};
+ghost use Rattle.query_tokens.specs.Classes.{is_base, is_name_start, is_var_char, is_name_char, is_label_start, is_local_start, is_local_char, is_local_escape, is_hex_digit, is_alphanumeric, is_exponent_mark, is_sign, closing, is_raw, is_short_escape};
+
+use crate::kind::Quoted;
+
+pub fn is_letter(c: char) -> bool
+    ensures { result ≡ is_letter c }
+{
+    matches!(c, 'A'..='Z' | 'a'..='z')
+}
+
+pub fn is_digit(c: char) -> bool
+    ensures { result ≡ is_digit c }
+{
+    matches!(c, '0'..='9')
+}
+
+/// PN_CHARS_BASE.
+pub fn is_base(c: char) -> bool
+    ensures { result ≡ is_base c }
+{
+    matches!(c,
+        'A'..='Z' | 'a'..='z' | '\u{C0}'..='\u{D6}' | '\u{D8}'..='\u{F6}' | '\u{F8}'..='\u{2FF}'
+        | '\u{370}'..='\u{37D}' | '\u{37F}'..='\u{1FFF}' | '\u{200C}'..='\u{200D}'
+        | '\u{2070}'..='\u{218F}' | '\u{2C00}'..='\u{2FEF}' | '\u{3001}'..='\u{D7FF}'
+        | '\u{F900}'..='\u{FDCF}' | '\u{FDF0}'..='\u{FFFD}' | '\u{10000}'..='\u{EFFFF}')
+}
+
+/// PN_CHARS_U.
+fn is_name_start(c: char) -> bool
+    ensures { result ≡ is_name_start c }
+{
+    is_base(c) || c == '_'
+}
+
+/// What the name of a variable may go on with.
+pub fn is_var_char(c: char) -> bool
+    ensures { result ≡ is_var_char c }
+{
+    is_name_start(c)
+        || matches!(c, '0'..='9' | '\u{B7}' | '\u{300}'..='\u{36F}' | '\u{203F}'..='\u{2040}')
+}
+
+/// PN_CHARS.
+pub fn is_name_char(c: char) -> bool
+    ensures { result ≡ is_name_char c }
+{
+    is_var_char(c) || c == '-'
+}
+
+/// What the name of a variable and a label begin with.
+pub fn is_label_start(c: char) -> bool
+    ensures { result ≡ is_label_start c }
+{
+    is_name_start(c) || is_digit(c)
+}
+
+/// What a local part may begin with as it is.
+pub fn is_local_start(c: char) -> bool
+    ensures { result ≡ is_local_start c }
+{
+    is_label_start(c) || c == ':'
+}
+
+/// What a local part may go on with as it is, and end with.
+pub fn is_local_char(c: char) -> bool
+    ensures { result ≡ is_local_char c }
+{
+    is_name_char(c) || c == ':'
+}
+
+/// What PN_LOCAL_ESC has behind its backslash.
+pub fn is_local_escape(c: char) -> bool
+    ensures { result ≡ is_local_escape c }
+{
+    matches!(
+        c,
+        '_' | '~'
+            | '.'
+            | '-'
+            | '!'
+            | '$'
+            | '&'
+            | '\''
+            | '('
+            | ')'
+            | '*'
+            | '+'
+            | ','
+            | ';'
+            | '='
+            | '/'
+            | '?'
+            | '#'
+            | '@'
+            | '%'
+    )
+}
+
+pub fn is_hex_digit(c: char) -> bool
+    ensures { result ≡ is_hex_digit c }
+{
+    matches!(c, '0'..='9' | 'A'..='F' | 'a'..='f')
+}
+
+pub fn is_alphanumeric(c: char) -> bool
+    ensures { result ≡ is_alphanumeric c }
+{
+    is_letter(c) || is_digit(c)
+}
+
+pub fn is_exponent_mark(c: char) -> bool
+    ensures { result ≡ is_exponent_mark c }
+{
+    matches!(c, 'e' | 'E')
+}
+
+pub fn is_sign(c: char) -> bool
+    ensures { result ≡ is_sign c }
+{
+    matches!(c, '+' | '-')
+}
+
+/// What may stand raw between `<` and `>`.
+fn is_iri_char(c: char) -> bool
+    ensures { result ≡ is_raw Quoted.Iri c }
+{
+    c >= '\u{21}' && !matches!(c, '<' | '>' | '"' | '{' | '}' | '|' | '^' | '`' | '\\')
+}
+
+impl Quoted {
+    /// The mark at the end.
+    pub fn closing(self) -> char
+        ensures { result ≡ closing self }
+    {
+        match self {
+            Quoted::Iri => '>',
+            Quoted::Double => '"',
+            Quoted::Single => '\'',
+        }
+    }
+
+    /// Whether the character may stand there as it is.
+    pub fn is_raw(self, c: char) -> bool
+        ensures { result ≡ is_raw self c }
+    {
+        match self {
+            Quoted::Iri => is_iri_char(c),
+            Quoted::Double => !matches!(c, '"' | '\\' | '\n' | '\r'),
+            Quoted::Single => !matches!(c, '\'' | '\\' | '\n' | '\r'),
+        }
+    }
+
+    /// Whether ECHAR has the character behind its backslash there.
+    pub fn is_short_escape(self, c: char) -> bool
+        ensures { result ≡ is_short_escape self c }
+    {
+        match self {
+            Quoted::Iri => false,
+            Quoted::Double | Quoted::Single => {
+                matches!(c, 't' | 'b' | 'n' | 'r' | 'f' | '"' | '\'' | '\\')
+            }
+        }
+    }
+}

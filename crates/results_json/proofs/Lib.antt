@@ -1,0 +1,10 @@
+pub mod AgainLemmas
+pub mod ColumnLemmas
+pub mod Examples
+pub mod NameLemmas
+pub mod RowLemmas
+pub mod ShapeLemmas
+pub mod TableLemmas
+pub mod TermLemmas
+pub mod TextLemmas
+pub mod TokenLemmas
