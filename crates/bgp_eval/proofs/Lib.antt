@@ -1,0 +1,9 @@
+pub mod AgreeLemmas
+pub mod AnswerLemmas
+pub mod CountLemmas
+pub mod NumberLemmas
+pub mod OnceLemmas
+pub mod SearchLemmas
+pub mod ShapeLemmas
+pub mod SoughtLemmas
+pub mod WaysLemmas

@@ -1,0 +1,7 @@
+pub mod Answers
+pub mod Kept
+pub mod Parts
+pub mod Shapes
+pub mod Sought
+pub mod Steps
+pub mod Ways

@@ -1,0 +1,9 @@
+pub mod Choice
+pub mod Forms
+pub mod Grammar
+pub mod Greatest
+pub mod Laws
+pub mod MediaRange
+pub mod Pieces
+pub mod Quality
+pub mod Ranges

@@ -1,0 +1,6 @@
+pub mod AssignmentLemmas
+pub mod CountLemmas
+pub mod ElementLemmas
+pub mod Examples
+pub mod SolutionLemmas
+pub mod UnknownLemmas
