@@ -60,6 +60,12 @@ count-middle p (u ∷ us) x vs =
     let turn : (a b c d : ℕ) → d ≡ b + c → a + d ≡ b + (a + c) = λ a b c d e. omega arith in
     turn (one_if (p u)) (one_if (p x)) (count p (us ++ vs)) (count p (us ++ x ∷ vs)) (count-middle p us x vs)
 
+-- what passes and stands in a list is counted there
+pub stands : {X : Type 0} (p : X → Bool) (before : List X) (x : X) (after : List X) → p x ≡ true → 0 < count p (before ++ x ∷ after)
+stands p before x after e =
+    let some : (n m k : ℕ) → n ≡ 1 → k ≡ n + m → 0 < k = λ n m k e f. omega arith in
+    some (one_if (p x)) (count p (before ++ after)) (count p (before ++ x ∷ after)) (ap one_if e) (count-middle p before x after)
+
 -- q stands somewhere in a list
 pub record Split {X : Type 0} (q : X) (xs : List X) : Type 0 where
   pub before : List X

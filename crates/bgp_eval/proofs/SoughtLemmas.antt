@@ -1,5 +1,5 @@
 -- The ways in which the steps of patterns go on from a row without values are the solutions of the patterns.
-use Rattle.std.proofs.Common.{◌≡◌, ◌==◌, ℕ, ◌+◌, ◌<◌, List, [], ◌∷◌, ◌++◌, Bool, true, false, not, ◌&&◌, ◌||◌, cond, Option, Some, None, refl, sym, ap, subst, ◌∙◌, arith, if◌then◌else◌, length, map, filter, take, replicate}
+use Rattle.std.proofs.Common.{◌≡◌, ◌==◌, ℕ, ◌+◌, ◌<◌, List, [], ◌∷◌, ◌++◌, Bool, true, false, not, ◌&&◌, ◌||◌, cond, Option, Some, None, refl, sym, ap, subst, ◌∙◌, if◌then◌else◌, length, map, filter, take, replicate}
 use Rattle.std.proofs.Math.Dec.{eqb-suc-suc, eqb-suc-zero, eqb-zero-suc}
 use Rattle.std.specs.List.{AllByRecursion, enumerate_from, flat_map, list_all, list_any}
 use Rattle.std.specs.List.Sorted.{IsPermutation}
@@ -27,7 +27,7 @@ use Rattle.bgp_eval.specs.Kept.{kept}
 use Rattle.bgp_eval.specs.Sought.{IsSought}
 use Rattle.bgp_eval.specs.Steps.{reach_of, step_of, steps_of}
 use Rattle.bgp_eval.specs.Ways.{ways}
-use Rattle.bgp_eval.proofs.CountLemmas.{count, count-middle, count_by-is, one_if, same_counts, split_at, Split}
+use Rattle.bgp_eval.proofs.CountLemmas.{count, count_by-is, one_if, same_counts, split_at, stands, Split}
 use Rattle.bgp_eval.proofs.AgreeLemmas.{agrees, fits_step, is_reached}
 use Rattle.bgp_eval.proofs.NumberLemmas.{value_of-is}
 use Rattle.bgp_eval.proofs.WaysLemmas.{count-ways, is_step_found, is_term-same}
@@ -165,8 +165,7 @@ module _ (once : EachSolutionOnce) (patterns : List TriplePattern) (views : List
   -- each way is whole
   whole-ways : AllByRecursion IsWhole (ways views plan (replicate (length (unknowns patterns)) None))
   whole-ways = each IsWhole (ways views plan (replicate (length (unknowns patterns)) None)) (λ before r after is.
-      let some : (n m : ℕ) → n ≡ 1 → 0 < n + m = λ n m e. omega arith in
-      let counted : 0 < count (agrees r) (before ++ r ∷ after) = subst (λ n. 0 < n) (sym (count-middle (agrees r) before r after)) (some (one_if (agrees r r)) (count (agrees r) (before ++ after)) (ap one_if (agrees-itself r))) in
+      let counted : 0 < count (agrees r) (before ++ r ∷ after) = stands (agrees r) before r after (agrees-itself r) in
       let number : count (agrees r) (before ++ r ∷ after) ≡ count (eq_by_cmp row_cmp r) (solutions patterns views) = ap (count (agrees r)) (sym is) ∙ count-agreeing r ∙ sym (count-solutions r) in
       let s : Split r (solutions patterns views) = split_at row_total row_exact r (solutions patterns views) (subst (λ n. 0 < n) number counted) in
       all-at IsWhole s.before r s.after (subst (AllByRecursion IsWhole) s.is (whole-solutions patterns views)))

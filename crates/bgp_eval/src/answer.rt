@@ -111,7 +111,8 @@ fn select<V: Scan>(
     if wanted.has_enough(&rows) {
         return Err(EvalFault::TooManyRows);
     }
-    let rows = cut_rows(ordered(rows, distinct)?, cut)?;
+    let sorted = ordered(rows, distinct)?;
+    let rows = cut_rows(sorted, cut)?;
     Ok(Found::Table(Table {
         vars: vars.copy(alloc)?,
         rows,

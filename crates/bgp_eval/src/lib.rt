@@ -13,6 +13,8 @@ mod plan;
 mod row;
 mod search;
 mod step;
+#[cfg(test)]
+mod tests;
 mod unknowns;
 
 pub use answer::answer_query;

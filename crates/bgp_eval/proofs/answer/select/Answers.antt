@@ -20,5 +20,5 @@ returns g c =
     c.in_ok-parts.ensures
     ∙ (λ i. map (λ (var : List ℕ). part_of (c.in_ok-names.ensures i) (Var var)) (c.as_slice.ensures.value i)) in
     select-all c.args.distinct c.args.vars.now c.in_ok-copy.field-0 c.args.group.now c.args.cut (map g.V.Scan.content c.args.views.now) wanted c.in_ok-parts.parts.items
-    c.in_ok-rows.rows c.in_ok-ordered.field-0 c.in_ok-rows-2.rows c.in_ok-rows.ensures (sym c.has_enough.ensures ∙ c.if-has_enough.false) (λ row. refl)
-    parts c.in_ok-ordered.ensures c.in_ok-rows-2.ensures c.in_ok-copy.ensures
+    c.in_ok-rows.rows c.in_ok-sorted.sorted c.in_ok-rows-2.rows c.in_ok-rows.ensures (sym c.has_enough.ensures ∙ c.if-has_enough.false) (λ row. refl)
+    parts c.in_ok-sorted.ensures c.in_ok-rows-2.ensures c.in_ok-copy.ensures
