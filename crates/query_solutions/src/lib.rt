@@ -10,5 +10,5 @@ mod steps;
 mod tests;
 
 pub use found::Found;
-pub use laws::each_solution_once;
+pub use laws::{each_solution_once, rows_of_solutions, triples_of_solutions, truth_of_solutions};
 pub use steps::steps_of;
