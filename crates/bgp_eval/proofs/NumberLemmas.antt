@@ -89,35 +89,28 @@ looked_up : (names : List Slot) (y x : Slot) (b : Bool) (k : ℕ) (before after 
 looked_up names y x true k before after same last none old new = new ∙ ap Some last ∙ sym (number_of_last names y x same (none refl))
 looked_up names y x false k before after same last none old new = new ∙ old ∙ sym (number_of_other names y x same)
 
+-- a text that ties with a key is what the key is
+text_same : (key name q : List ℕ) → eq_by_cmp text_cmp key q ≡ true → key ≡ name → q ≡ name
+text_same key name q e is = sym (to (text_cmp key q) refl e) ∙ is
+  where
+    to : (o : Ordering) → text_cmp key q ≡ o → is_eq o ≡ true → key ≡ q
+    to Less f g = cc
+    to Equal f g = text_exact key q f
+    to Greater f g = cc
+
 pub variables_more : (names : List Slot) (key name q : List ℕ) (k : ℕ) (before after : Option ℕ) → key ≡ name → k ≡ length names → number_in names (Var name) ≡ None
     → before ≡ number_in names (Var q) → after ≡ cond (eq_by_cmp text_cmp key q) (Some k) before → after ≡ number_in (names ++ Var name ∷ []) (Var q)
 variables_more names key name q k before after is last none old new =
     looked_up names (Var name) (Var q) (eq_by_cmp text_cmp key q) k before after
     ((eq_by_cmp_equiv text_total).symm q name ∙ ap (λ n. eq_by_cmp text_cmp n q) (sym is)) last
-    (λ e. ap (λ n. number_in names (Var n)) (text_same key q e is) ∙ none) old new
-  where
-    text_same : (key q : List ℕ) → eq_by_cmp text_cmp key q ≡ true → key ≡ name → q ≡ name
-    text_same key q e is = sym (to (text_cmp key q) refl e) ∙ is
-      where
-        to : (o : Ordering) → text_cmp key q ≡ o → is_eq o ≡ true → key ≡ q
-        to Less f g = cc
-        to Equal f g = text_exact key q f
-        to Greater f g = cc
+    (λ e. ap (λ n. number_in names (Var n)) (text_same key name q e is) ∙ none) old new
 
 pub blanks_more : (names : List Slot) (key name q : List ℕ) (k : ℕ) (before after : Option ℕ) → key ≡ name → k ≡ length names → number_in names (Blank name) ≡ None
     → before ≡ number_in names (Blank q) → after ≡ cond (eq_by_cmp text_cmp key q) (Some k) before → after ≡ number_in (names ++ Blank name ∷ []) (Blank q)
 blanks_more names key name q k before after is last none old new =
     looked_up names (Blank name) (Blank q) (eq_by_cmp text_cmp key q) k before after
     ((eq_by_cmp_equiv text_total).symm q name ∙ ap (λ n. eq_by_cmp text_cmp n q) (sym is)) last
-    (λ e. ap (λ n. number_in names (Blank n)) (text_same key q e is) ∙ none) old new
-  where
-    text_same : (key q : List ℕ) → eq_by_cmp text_cmp key q ≡ true → key ≡ name → q ≡ name
-    text_same key q e is = sym (to (text_cmp key q) refl e) ∙ is
-      where
-        to : (o : Ordering) → text_cmp key q ≡ o → is_eq o ≡ true → key ≡ q
-        to Less f g = cc
-        to Equal f g = text_exact key q f
-        to Greater f g = cc
+    (λ e. ap (λ n. number_in names (Blank n)) (text_same key name q e is) ∙ none) old new
 
 pub no_number : (o : Option ℕ) (r : Bool) → r ≡ is_some o → r ≡ false → o ≡ None
 no_number None r e f = refl
