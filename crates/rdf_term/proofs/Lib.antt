@@ -4,4 +4,5 @@ pub mod Examples
 pub mod Same
 pub mod SetLemmas
 pub mod SortLemmas
+pub mod TextLemmas
 pub mod WritingLemmas

@@ -1,5 +1,6 @@
 -- A strictly ascending list is known by its elements, and `sorted_set` makes the one with given elements.
-use Rattle.std.proofs.Common.{◌≡◌, Bool, true, false, ◌||◌, cond, List, [], ◌∷◌, ◌++◌, fold, refl, sym, ap, subst, ◌∙◌}
+use Rattle.std.specs.Prelude.{Contains}
+use Rattle.std.proofs.Common.{◌≡◌, ◌↔◌, Bool, true, false, ◌||◌, cond, List, [], ◌∷◌, ◌++◌, fold, refl, sym, ap, subst, ◌∙◌}
 use Rattle.std.specs.List.{list_any, AllByRecursion, dedup, dedup_from}
 use Rattle.std.specs.List.Sorted.{IsStrictlySortedBy, IsSorted, IsPermutation}
 use Rattle.std.specs.Ordering.{eq_by_cmp, is_eq, match_ordering, ordering_reverse}
@@ -7,12 +8,14 @@ use Rattle.std.specs.Cmp.{IsTotalOrder}
 use Rattle.std.specs.BTreeSet.{insert_key}
 use Rattle.std.specs.declared.cmp.Ordering.{Ordering}
 use Rattle.std.specs.declared.cmp.Ordering.TheVariants.{Less, Equal, Greater}
-use Rattle.std.proofs.lemmas.Cmp.{tied_itself, alike_right}
+use Rattle.std.proofs.lemmas.Cmp.{tied_itself, alike_right, eq_by_cmp_equiv}
+use Rattle.std.proofs.lemmas.Map.Views.{Contains-from_any, list_any-from_Contains}
 use Rattle.std.proofs.lemmas.List.Kept.{IsStrictlySortedBy-dedup}
 use Rattle.std.proofs.lemmas.List.Sorted.{list_any-IsPermutation}
 use Rattle.std.proofs.lemmas.List.Folds.{list_any-append}
 use Rattle.std.proofs.lemmas.Map.Lookups.{CmpEqualImpliesEq}
 use Rattle.rdf_term.specs.Sets.{sorted_set}
+use Rattle.rdf_term.proofs.Same.{same_by_cmp}
 
 -- q is an element
 abbrev pub has : {K : Type 0} → (K → K → Ordering) → List K → K → Bool
@@ -166,3 +169,13 @@ module _ {K : Type 0} {R : K → K → Ordering} (o : IsTotalOrder R) (exact : C
   pub sorted_set-dedup : (xs ys : List K) → IsPermutation xs ys → IsSorted R ys → dedup (eq_by_cmp R) ys ≡ sorted_set R xs
   sorted_set-dedup xs ys p s = sorted_set-is (dedup (eq_by_cmp R) ys) xs (IsStrictlySortedBy-dedup o (λ x y. refl) ys s)
       (λ q. has-dedup ys q ∙ sym (list_any-IsPermutation (eq_by_cmp R q) xs ys p))
+
+  same : (x y : K) → eq_by_cmp R x y ≡ true → x ≡ y
+  same x y = (same_by_cmp o exact x y (eq_by_cmp R x y) refl).0
+
+  -- a set has the elements that it is made of
+  pub Contains-sorted_set : (xs : List K) (q : K) → Contains (sorted_set R xs) q ↔ Contains xs q
+  Contains-sorted_set xs q = (
+    λ h. Contains-from_any same q xs (sym (has-sorted_set xs q) ∙ list_any-from_Contains (eq_by_cmp_equiv o) q (sorted_set R xs) h),
+    λ h. Contains-from_any same q (sorted_set R xs) (has-sorted_set xs q ∙ list_any-from_Contains (eq_by_cmp_equiv o) q xs h),
+  )

@@ -159,3 +159,8 @@ module _ {K : Type 0} {R : K → K → Ordering} (o : IsTotalOrder R) (exact : C
   pub sorted_list-is : (xs ys : List K) → IsPermutation xs ys → IsSorted R ys → ys ≡ sorted_list R xs
   sorted_list-is xs ys p s = same_list ys (sorted_list R xs) (rises_of ys s) (rises_from [] xs tt)
       (λ q. count_is q ys ∙ sum_by-IsPermutation (λ x. one (R q x)) xs ys p ∙ sym (count_is q xs) ∙ sym (count-sorted_list xs q))
+
+  -- lists with the same items are one list once they are in order
+  pub sorted_list-same : (xs ys : List K) → IsPermutation xs ys → sorted_list R xs ≡ sorted_list R ys
+  sorted_list-same xs ys p = same_list (sorted_list R xs) (sorted_list R ys) (rises_from [] xs tt) (rises_from [] ys tt)
+      (λ q. count-sorted_list xs q ∙ count_is q xs ∙ sym (sum_by-IsPermutation (λ x. one (R q x)) xs ys p) ∙ sym (count_is q ys) ∙ sym (count-sorted_list ys q))

@@ -17,6 +17,10 @@ is_digit = is_in ((0x30, 0x39) ∷ [])
 abbrev pub is_letter : ℕ → Bool
 is_letter = is_in ((0x41, 0x5A) ∷ (0x61, 0x7A) ∷ [])
 
+-- HEX ::= [0-9] | [A-F] | [a-f]
+abbrev pub is_hex_digit : ℕ → Bool
+is_hex_digit = is_in ((0x30, 0x39) ∷ (0x41, 0x46) ∷ (0x61, 0x66) ∷ [])
+
 -- PN_CHARS_BASE
 abbrev pub pn_chars_base : List (ℕ × ℕ)
 pn_chars_base =

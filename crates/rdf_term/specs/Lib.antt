@@ -2,11 +2,14 @@ pub mod Buffer
 pub mod Canonical
 pub mod Classes
 pub mod EachOnce
+pub mod Escapes
 pub mod Matching
 pub mod Order
 pub mod OrderLaws
+pub mod SameLaws
 pub mod Sets
 pub mod Statement
+pub mod TagLaws
 pub mod Terms
 pub mod TextOrder
 pub mod Validity

@@ -1,6 +1,6 @@
 -- Valid terms: their texts meet the grammar of RDF 1.1 N-Triples, section 7, and this product's own rules.
 use Rattle.std.specs.Prelude.{ℕ, List, [], ◌∷◌, Bool, true, false, ◌&&◌, ◌||◌, ◌==◌, not, nat_le, length, codes, encode_utf8_all, IsTrue}
-use Rattle.std.specs.List.{list_all}
+use Rattle.std.specs.List.{list_all, slice_split}
 use Rattle.std.specs.Str.{all_scalars, bytes_eq}
 use Rattle.rdf_term.specs.declared.term.Term.{Term}
 use Rattle.rdf_term.specs.declared.term.Term.TheVariants.{Iri, Blank, Plain, Tagged, Typed}
@@ -41,16 +41,26 @@ abbrev pub is_label : List ℕ → Bool
 is_label [] = false
 is_label (c ∷ cs) = (pn_chars_u c || is_digit c) && is_label_rest cs
 
--- a part of a language tag, of characters of this class, and the parts after it; begun says whether it has one
+-- one or more characters of a class, and no others
+abbrev pub is_run : (ℕ → Bool) → List ℕ → Bool
+is_run class [] = false
+is_run class (c ∷ cs) = class c && list_all class cs
+
+-- the first part is of letters, and each other one of letters and digits
+abbrev pub are_tag_parts : List (List ℕ) → Bool
+are_tag_parts [] = false
+are_tag_parts (first ∷ more) = is_run is_letter first && list_all (is_run (λ d. is_letter d || is_digit d)) more
+
+-- a language tag without `@`, by its parts between hyphens: [a-zA-Z]+ ( '-' [a-zA-Z0-9]+ )*
+abbrev pub is_tag : List ℕ → Bool
+is_tag tag = are_tag_parts (slice_split (λ c. c == 45) tag)
+
+-- the same from left to right: a part of characters of this class, and the parts after it; begun says whether it has one
 abbrev pub is_tag_from : Bool → (ℕ → Bool) → List ℕ → Bool
 is_tag_from begun part [] = begun
 is_tag_from begun part (c ∷ cs) =
     (part c && is_tag_from true part cs)
     || (c == 45 && begun && is_tag_from false (λ d. is_letter d || is_digit d) cs)
-
--- a language tag without `@`: [a-zA-Z]+ ( '-' [a-zA-Z0-9]+ )*
-abbrev pub is_tag : List ℕ → Bool
-is_tag = is_tag_from false is_letter
 
 -- the datatype of a plain literal
 abbrev pub xsd_string : List ℕ

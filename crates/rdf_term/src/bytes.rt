@@ -1,7 +1,9 @@
-ghost use Rattle.std.specs.Prelude.{◌≡◌, ◌≤◌, ◌<◌, ◌+◌, [], ◌∷◌, ◌++◌, length, slice_get, IfOk, OnOk, OnErr, IsOk, take};
+ghost use Rattle.std.specs.Prelude.{◌≡◌, ◌≤◌, ◌<◌, ◌+◌, ◌-◌, [], ◌∷◌, ◌++◌, decimal, length, slice_get, IfOk, OnOk, OnErr, IsOk, take, vec_len};
+ghost use Rattle.std.specs.Vec.{vec_capacity};
 ghost use Rattle.std.specs.Option.{option_copied};
 
 use crate::Memory;
+use itoa::Buffer;
 use std::alloc::Global;
 use std::marker::Model;
 
@@ -25,7 +27,8 @@ impl Model for Bytes {
 impl Bytes {
     /// An empty buffer, which takes no memory.
     pub fn new(alloc: Global) -> Bytes
-        ensures { result.items ≡ [] }
+        ensures items { result.items ≡ [] }
+        ensures spare { result.spare ≡ 0 }
     {
         Bytes {
             items: Vec::new(alloc),
@@ -34,7 +37,8 @@ impl Bytes {
 
     /// The bytes of a vector, whose room they keep. It takes no memory.
     pub fn from_vec(items: Vec<u8>) -> Bytes
-        ensures { result.items ≡ items.items }
+        ensures items { result.items ≡ items.items }
+        ensures spare { result.spare ≡ vec_capacity items - vec_len items }
     {
         Bytes { items }
     }
@@ -94,18 +98,35 @@ impl Bytes {
         Ok(())
     }
 
-    /// Adds a piece at the end. Without memory the bytes stay as they were.
+    /// Adds a piece at the end. With spare bytes for it, it succeeds; it uses up no more of them than
+    /// the piece has. Without memory the bytes stay as they were.
     pub fn append(&mut self, piece: &[u8]) -> Result<(), Memory>
         ensures ok { OnOk result (self.new.items ≡ self.old.items ++ piece.now) }
         ensures memory { OnErr result (self.new.items ≡ self.old.items) }
+        ensures succeeds { length piece.now ≤ self.old.spare → IsOk result }
+        ensures spare { self.old.spare ≤ self.new.spare + length piece.now }
     {
         self.items.extend_from_slice(piece)?;
         Ok(())
     }
 
-    /// Keeps the first `len` bytes, or all where there are no more.
+    /// Adds the decimal digits of a number at the end, without leading zeros. With spare bytes for
+    /// them, it succeeds; it uses up no more of them than there are digits. Without memory the bytes
+    /// stay as they were.
+    pub fn append_decimal(&mut self, number: u64) -> Result<(), Memory>
+        ensures ok { OnOk result (self.new.items ≡ self.old.items ++ decimal number) }
+        ensures memory { OnErr result (self.new.items ≡ self.old.items) }
+        ensures succeeds { length (decimal number) ≤ self.old.spare → IsOk result }
+        ensures spare { self.old.spare ≤ self.new.spare + length (decimal number) }
+    {
+        let mut digits = Buffer::new();
+        self.append(digits.format(number).as_bytes())
+    }
+
+    /// Keeps the first `len` bytes, or all where there are no more, and makes the others spare.
     pub fn truncate(&mut self, len: usize)
-        ensures { self.new.items ≡ take len self.old.items }
+        ensures items { self.new.items ≡ take len self.old.items }
+        ensures spare { self.new.spare + length self.new.items ≡ self.old.spare + length self.old.items }
     {
         self.items.truncate(len);
     }

@@ -1,9 +1,10 @@
-ghost use Rattle.std.specs.Prelude.{◌≡◌, [], ◌∷◌, ◌++◌, length, slice_get, OnOk, OnErr, Contains};
+ghost use Rattle.std.specs.Prelude.{◌≡◌, ◌↔◌, [], ◌∷◌, ◌++◌, length, slice_get, OnOk, OnErr, Contains, IsTrue};
+ghost use Rattle.std.specs.Cmp.Lexicographic.{pointwise, lists_per, lists_equiv};
 ghost use Rattle.std.specs.Option.{option_copied};
 ghost use Rattle.rdf_term.specs.EachOnce.{EachOnce};
 
 use crate::seq::copied;
-use crate::{Duplicate, Memory};
+use crate::{Duplicate, Memory, ValueEq};
 use std::alloc::Global;
 use std::marker::Model;
 
@@ -78,4 +79,21 @@ impl<T: Duplicate> Duplicate for Distinct<T> {
             items: copied(alloc, self.items.as_slice())?,
         })
     }
+}
+
+impl<T: ValueEq> PartialEq for Distinct<T> {
+    ghost eq = { pointwise T.eq };
+
+    ghost laws = { lists_per T.PartialEq.laws };
+
+    fn eq(&self, other: &Distinct<T>) -> bool
+        ensures value { result ≡ pointwise T.eq self.now other.now }
+        ensures same { IsTrue result ↔ (self.now ≡ other.now) }
+    {
+        self.as_slice() == other.as_slice()
+    }
+}
+
+impl<T: ValueEq> Eq for Distinct<T> {
+    ghost laws = { lists_equiv T.Eq.laws };
 }

@@ -5,6 +5,7 @@ ghost use Rattle.std.proofs.lemmas.Cmp.{eq_by_cmp_equiv};
 ghost use Rattle.rdf_term.specs.Terms.{IsGraph};
 ghost use Rattle.rdf_term.specs.Order.{graph_cmp};
 ghost use Rattle.rdf_term.specs.OrderLaws.{graph_total};
+ghost use Rattle.rdf_term.specs.Validity.{IsValidGraph};
 
 use crate::{Duplicate, Memory, Term};
 use std::alloc::Global;
@@ -26,6 +27,16 @@ impl Graph {
         match self {
             Graph::Absent => true,
             Graph::Named(name) => name.is_resource(),
+        }
+    }
+
+    /// Whether a valid term names the graph, where it is a named one. It takes no memory.
+    pub fn is_valid(&self) -> bool
+        ensures { IsTrue result ↔ IsValidGraph self.now }
+    {
+        match self {
+            Graph::Absent => true,
+            Graph::Named(name) => name.is_valid(),
         }
     }
 

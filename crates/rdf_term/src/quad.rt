@@ -6,6 +6,7 @@ ghost use Rattle.rdf_term.specs.Terms.{IsResource, IsIri, IsGraph};
 ghost use Rattle.rdf_term.specs.Statement.{IsStatement};
 ghost use Rattle.rdf_term.specs.Order.{quad_cmp};
 ghost use Rattle.rdf_term.specs.OrderLaws.{quad_total};
+ghost use Rattle.rdf_term.specs.Validity.{IsValidQuad};
 
 use crate::{Duplicate, Graph, Memory, Term};
 use std::alloc::Global;
@@ -14,7 +15,7 @@ use std::marker::Model;
 use thiserror::Error;
 
 /// Why four parts are no quad. The first cause in this order is the one that is answered.
-#[derive(Debug, Drop, Error)]
+#[derive(Clone, Copy, Debug, PartialEq, Eq, Error)]
 pub enum TermFault {
     /// The subject is a literal.
     #[error("the subject is a literal")]
@@ -100,15 +101,22 @@ impl Quad {
         &self.c
     }
 
-    /// The order of quads.
+    /// Whether all terms of the quad are valid. It takes no memory.
+    pub fn is_valid(&self) -> bool
+        ensures { IsTrue result ↔ IsValidQuad self.now }
+    {
+        self.s.is_valid() && self.p.is_valid() && self.o.is_valid() && self.c.is_valid()
+    }
+
+    /// The order of quads. Parts behind the first that differs are not looked at.
     fn order(&self, other: &Quad) -> Ordering
         ensures { result ≡ quad_cmp self.now other.now }
     {
         self.s
             .order(&other.s)
-            .then(self.p.order(&other.p))
-            .then(self.o.order(&other.o))
-            .then(self.c.order(&other.c))
+            .then_with(|| self.p.order(&other.p))
+            .then_with(|| self.o.order(&other.o))
+            .then_with(|| self.c.order(&other.c))
     }
 }
 

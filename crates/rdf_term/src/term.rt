@@ -5,6 +5,7 @@ ghost use Rattle.std.proofs.lemmas.Cmp.{eq_by_cmp_equiv};
 ghost use Rattle.rdf_term.specs.Terms.{kind, first, second, IsResource, IsIri};
 ghost use Rattle.rdf_term.specs.Order.{term_cmp};
 ghost use Rattle.rdf_term.specs.OrderLaws.{term_total};
+ghost use Rattle.rdf_term.specs.Validity.{is_valid, IsValidTerm};
 
 use crate::{Duplicate, Memory, Text};
 use std::alloc::Global;
@@ -79,14 +80,35 @@ impl Term {
         matches!(self, Term::Iri(_))
     }
 
+    /// Whether the term is valid: its texts meet the grammar of RDF 1.1 N-Triples, section 7, and
+    /// this product's own rules. An IRI has a scheme, no part is over 65,535 bytes, and no literal
+    /// is typed as `xsd:string`. It takes no memory.
+    pub fn is_valid(&self) -> bool
+        ensures value { result ≡ is_valid self.now }
+        ensures fact { IsTrue result ↔ IsValidTerm self.now }
+    {
+        match self {
+            Term::Iri(iri) => iri.is_short() && iri.is_iri_text(),
+            Term::Blank(label) => label.is_short() && label.is_label(),
+            Term::Plain(text) => text.is_short(),
+            Term::Tagged(text, tag) => text.is_short() && tag.is_short() && tag.is_tag(),
+            Term::Typed(text, datatype) => {
+                text.is_short()
+                    && datatype.is_short()
+                    && datatype.is_iri_text()
+                    && !datatype.is_xsd_string()
+            }
+        }
+    }
+
     /// The order of terms.
     pub(crate) fn order(&self, other: &Term) -> Ordering
         ensures { result ≡ term_cmp self.now other.now }
     {
         self.kind()
             .cmp(&other.kind())
-            .then(self.first().cmp(other.first()))
-            .then(self.second().cmp(other.second()))
+            .then_with(|| self.first().cmp(other.first()))
+            .then_with(|| self.second().cmp(other.second()))
     }
 }
 
