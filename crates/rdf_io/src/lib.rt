@@ -10,8 +10,6 @@ mod mem_source;
 mod sink;
 mod source;
 mod streams;
-#[cfg(test)]
-mod tests;
 
 pub use mem_sink::MemSink;
 pub use mem_source::MemSource;

@@ -1,4 +1,4 @@
-ghost use Rattle.std.specs.Prelude.{◌≡◌, ◌≤◌, ◌↔◌, [], length, true, false, Some, IsErr, OnErr, IfOk, Contains};
+ghost use Rattle.std.specs.Prelude.{◌≡◌, ◌≤◌, ◌↔◌, ◌++◌, [], length, true, false, Some, IsErr, OnErr, OnOk, IfOk, Contains};
 ghost use Rattle.std.specs.Io.KnownBytes.{Keeps};
 ghost use Rattle.rdf_io.specs.Causes.{HasCause, WritesPart, one_more};
 ghost use Rattle.rdf_io.specs.Memory.{SinkState};
@@ -88,6 +88,10 @@ impl Sink for MemSink {
         ensures rules { self.new.fails ≡ self.old.fails }
         ensures whole { IfOk result (λ n. n ≡ length piece.now) }
         ensures failed { OnErr result (self.new.got ≡ self.old.got) }
+
+        // A fault is counted once, as a call and as a fault, and changes nothing else.
+        ensures fault { OnErr result (self.new ≡ record self.old { calls = one_more self.old.calls; count = one_more self.old.count }) }
+        ensures taken { OnOk result (self.new ≡ record self.old { got = self.old.got ++ piece.now; calls = one_more self.old.calls }) }
     {
         if self.fails_now() {
             return Err(Failed);
@@ -105,6 +109,8 @@ impl Sink for MemSink {
         ensures fails { IsErr result ↔ Contains self.old.fails self.old.calls }
         ensures calls { self.new.calls ≡ one_more self.old.calls }
         ensures rules { self.new.fails ≡ self.old.fails }
+        ensures fault { OnErr result (self.new ≡ record self.old { calls = one_more self.old.calls; count = one_more self.old.count }) }
+        ensures flushed { OnOk result (self.new ≡ record self.old { calls = one_more self.old.calls }) }
     {
         if self.fails_now() {
             Err(Failed)
