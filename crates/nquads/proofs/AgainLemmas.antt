@@ -16,6 +16,7 @@ use Rattle.rdf_term.specs.Statement.{Statement}
 use Rattle.rdf_term.specs.Classes.{is_letter, is_digit, is_one_of, is_iri_char, pn_chars, pn_chars_u}
 use Rattle.rdf_term.specs.Canonical.{escaped, quoted, term_text, canonical_line, canonical_triple}
 use Rattle.rdf_term.specs.Validity.{has_scheme, is_iri_text, is_part, is_short, is_label, is_label_rest, is_tag, is_tag_from, xsd_string, IsValidTerm, IsValidGraph, IsValidQuad}
+use Rattle.rdf_term.specs.TagLaws.{is_tag-automaton}
 use Rattle.rdf_term.specs.Order.{quad_cmp}
 use Rattle.rdf_term.specs.OrderLaws.{quad_total, quad_exact}
 use Rattle.rdf_term.proofs.Same.{same_by_cmp}
@@ -28,7 +29,8 @@ use Rattle.nquads_line.proofs.WrittenLemmas.{quads_again}
 use Rattle.nquads_line.proofs.LineLemmas.{line_once}
 use Rattle.nquads.specs.Lines.{is_end, no_end, AreTextLines}
 use Rattle.nquads.specs.Documents.{AreLines, IsDocument}
-use Rattle.nquads.specs.Written.{document_text, triple_parts, graph_part, in_absent_graph, read_again, IsWritable}
+use Rattle.nquads.specs.Written.{document_text, in_absent_graph, read_again, IsWritable}
+use Rattle.nquads_line.specs.Parts.{triple_parts, graph_part}
 use Rattle.nquads.proofs.LineLemmas.{or_both}
 use Rattle.nquads.proofs.CutLaw.{lines_are}
 use Rattle.nquads.proofs.WriteLemmas.{quad_line, one_ascii, same_test}
@@ -106,7 +108,7 @@ tag_chars begun part (c ∷ cs) p h =
     ]
 
 tag_no_end : (tag : List ℕ) → is_tag tag ≡ true → no_end tag ≡ true
-tag_no_end tag h = none_in tag_char tag refl refl (tag_chars false is_letter tag (λ d k. or_left (is_letter d) (is_digit d) k) h)
+tag_no_end tag h = none_in tag_char tag refl refl (tag_chars false is_letter tag (λ d k. or_left (is_letter d) (is_digit d) k) (sym (is_tag-automaton tag) ∙ h))
 
 iri_no_end : (iri : List ℕ) → is_iri_text iri ≡ true → no_end iri ≡ true
 iri_no_end iri h = none_in is_iri_char iri refl refl (split (list_all is_iri_char iri) (has_scheme iri) h).0

@@ -1,18 +1,21 @@
 -- What one more piece means for a reader and the lines of its text.
-use Rattle.std.proofs.Common.{◌≡◌, ℕ, ◌+◌, ◌-◌, ◌^◌, List, [], ◌∷◌, ◌++◌, Bool, true, false, ◌==◌, ◌&&◌, ◌||◌, refl, ap, ◌∙◌, sym, subst, arith, Option, min, length, append_assoc, append-nil, length-append}
+use Rattle.std.proofs.Common.{◌≡◌, ℕ, ◌+◌, ◌-◌, ◌^◌, List, [], ◌∷◌, ◌++◌, Bool, true, false, ◌==◌, ◌&&◌, ◌||◌, refl, ap, ◌∙◌, sym, subst, arith, Option, Some, None, min, length, append_assoc, append-nil, length-append}
 use Rattle.std.specs.Option.{option_to_list}
 use Rattle.std.specs.Prelude.{IfErr, OnErr}
 use Rattle.std.specs.declared.result.Result.{Result}
 use Rattle.std.specs.declared.result.Result.TheVariants.{Ok, Err}
+use Rattle.std.specs.List.{All}
+use Rattle.std.proofs.lemmas.List.Elements.{All-nil, All-cons, All-append, All-same}
 use Rattle.std.proofs.lemmas.Bool.Decides.{Decides-eqb}
 use Rattle.rdf_term.specs.Statement.{Statement}
+use Rattle.rdf_term.specs.Validity.{IsValidQuad}
 use Rattle.nquads_line.specs.declared.kind.Kind.{Kind}
 use Rattle.nquads.specs.declared.fault.DataFault.{DataFault}
 use Rattle.nquads.specs.declared.fault.DataFault.TheVariants.{BadLine, TooLong, Memory}
 use Rattle.nquads.specs.Lines.{Cut, cut, ends_in_cr, is_end, no_end}
-use Rattle.nquads_line.specs.Grammar.{IsLine, IsShortQuad}
+use Rattle.nquads_line.specs.Grammar.{IsLine, IsShortQuad, IsValidLine}
 use Rattle.nquads.specs.Documents.{AreLines, IsRefused, UnlessMemory, line_number}
-use Rattle.nquads.specs.State.{Reader, new_reader, Stands, Feeds, FailsAt, Stops}
+use Rattle.nquads.specs.State.{Reader, new_reader, Stands, Feeds, FailsAt, Stops, Finishes, AppendsValid}
 use Rattle.nquads.proofs.LineLemmas.{more, split, cut-snoc, cut-line, cut-end, ends_in_cr-line, ends_in_cr-end}
 
 -- a refused line, told by other words for its kind, its bytes and its number
@@ -236,3 +239,37 @@ pub end_whole : (r r' : Reader) (line : List ℕ) (n : ℕ) (q : Option Statemen
     × (r' ≡ record r { line = []; ended = line_number r.ended })
 end_whole r r' line n q out out' nil l s o e same =
     (q, subst (λ v. IsLine r.kind (v ++ line) q) (sym nil) l, s, o, same ∙ (λ i. record r { line = nil i; ended = e i }))
+
+-- what came after the last end is the last line
+pub finishes_last : (kind : Kind) (taken : List ℕ) (r : Reader) (last : List ℕ) (q : Option Statement) (out out' : List Statement)
+    → Stands r kind taken → last ≡ r.line → IsLine r.kind last q → IsShortQuad q → out' ≡ out ++ option_to_list q → Finishes kind taken out out'
+finishes_last kind taken r last q out out' s e l t o =
+    record {
+      quad = q;
+      read = subst (λ k. IsLine k (cut taken).rest q) s.kind_is (subst (λ v. IsLine r.kind v q) (e ∙ s.line) l);
+      short = t;
+      appended = o;
+    }
+
+-- quads of valid terms
+
+pub valid_none : (before after : List Statement) → after ≡ before → AppendsValid before after
+valid_none before after e = record { quads = []; appended = e ∙ sym (append-nil before); valid = All-nil IsValidQuad }
+
+pub valid_line : (before after : List Statement) (q : Option Statement) → IsValidLine q → after ≡ before ++ option_to_list q → AppendsValid before after
+valid_line before after None h e = record { quads = []; appended = e; valid = All-nil IsValidQuad }
+valid_line before after (Some q) h e =
+    record { quads = q ∷ []; appended = e; valid = All-cons IsValidQuad q [] h (All-nil IsValidQuad) }
+
+pub valid_more : (before between after : List Statement) → AppendsValid before between → AppendsValid between after → AppendsValid before after
+valid_more before between after f g =
+    record {
+      quads = f.quads ++ g.quads;
+      appended = g.appended ∙ ap (λ v. v ++ g.quads) f.appended ∙ append_assoc before f.quads g.quads;
+      valid = All-append IsValidQuad f.quads g.quads f.valid g.valid;
+    }
+
+-- those that were appended to nothing
+pub valid_all : (before after : List Statement) → before ≡ [] → AppendsValid before after → All IsValidQuad after
+valid_all before after e f =
+    All-same IsValidQuad after f.quads (f.appended ∙ ap (λ v. v ++ f.quads) e) f.valid

@@ -9,7 +9,9 @@ use Rattle.std.specs.declared.result.Result.{Result}
 use Rattle.nquads_line.specs.declared.kind.Kind.TheVariants.{Triples}
 use Rattle.rdf_term.proofs.WritingLemmas.{then_appends, appends_of}
 use Rattle.rdf_term.specs.Writing.{Extends, Appends}
-use Rattle.nquads.specs.Written.{triple_parts, graph_part, document_text, NextTriple, IsNextTriple}
+use Rattle.nquads.specs.Written.{document_text}
+use Rattle.nquads_line.specs.Parts.{triple_parts, graph_part}
+use Rattle.nquads.specs.Steps.{NextTriple, IsNextTriple}
 use Rattle.std.proofs.lemmas.Slice.Eq.{bytes_eq-Decides}
 use Rattle.std.proofs.Math.Seq.{drop-append_seam}
 use Rattle.rdf_term.specs.declared.graph.Graph.{Graph}

@@ -1,5 +1,5 @@
 -- Documents of N-Triples and N-Quads (RDF 1.1), and the first line for which a text is none.
-use Rattle.std.specs.Prelude.{◌≡◌, ℕ, ◌+◌, ◌-◌, ◌^◌, List, [], ◌∷◌, ◌++◌, Option, min, length}
+use Rattle.std.specs.Prelude.{◌≡◌, ℕ, ◌+◌, ◌-◌, ◌^◌, List, [], ◌∷◌, ◌++◌, Option, None, Some, min, length}
 use Rattle.std.specs.Option.{option_to_list}
 use Rattle.rdf_term.specs.Statement.{Statement}
 use Rattle.nquads_line.specs.declared.kind.Kind.{Kind}
@@ -39,6 +39,11 @@ pub record FirstBad (kind : Kind) (bytes : List ℕ) (fault : DataFault) : Type 
   pub lines : lines_of bytes ≡ good ++ bad ∷ later
   pub read : AreLines kind good quads
   pub refused : IsRefused kind bad (line_number (length good)) fault
+
+-- the answer to a text: its quads; or the fault of its first bad line, with the quads of the lines before that one
+abbrev pub IsAnswer : Kind → List ℕ → Option DataFault → List Statement → Type 0
+IsAnswer kind bytes None quads = IsDocument kind bytes quads
+IsAnswer kind bytes (Some fault) quads = (bad : FirstBad kind bytes fault) × (bad.quads ≡ quads)
 
 -- what an answer other than want of memory means
 abbrev pub UnlessMemory : DataFault → Type 0 → Type 0

@@ -1,7 +1,9 @@
 -- What a reader of pieces has taken, and what a further piece means.
 use Rattle.std.specs.Prelude.{◌≡◌, ℕ, ◌+◌, ◌-◌, ◌^◌, List, [], ◌∷◌, ◌++◌, Option, None, Bool, false, min, length}
+use Rattle.std.specs.List.{All}
 use Rattle.std.specs.Option.{option_to_list}
 use Rattle.rdf_term.specs.Statement.{Statement}
+use Rattle.rdf_term.specs.Validity.{IsValidQuad}
 use Rattle.nquads_line.specs.declared.kind.Kind.{Kind}
 use Rattle.nquads.specs.declared.fault.DataFault.{DataFault}
 use Rattle.nquads.specs.Lines.{cut, ends_in_cr}
@@ -63,3 +65,9 @@ pub record Finishes (kind : Kind) (taken : List ℕ) (before after : List Statem
   pub read : IsLine kind (cut taken).rest quad
   pub short : IsShortQuad quad
   pub appended : after ≡ before ++ option_to_list quad
+
+-- quads of valid terms were appended, and nothing else
+pub record AppendsValid (before after : List Statement) : Type 0 where
+  pub quads : List Statement
+  pub appended : after ≡ before ++ quads
+  pub valid : All IsValidQuad quads

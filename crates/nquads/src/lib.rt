@@ -5,15 +5,14 @@
 mod fault;
 mod laws;
 mod reader;
-#[cfg(test)]
-mod tests;
 mod writer;
 
 pub use fault::DataFault;
 pub use laws::{
-    documents_read_again, is_refused_or_read, lines_are_cut_at_ends, one_answer_to_a_piece,
+    any_pieces, documents_are_valid, documents_read_again, is_refused_or_read,
+    lines_are_cut_at_ends, one_answer, one_answer_at_the_end, one_answer_to_a_piece,
     one_first_bad_line, one_reading,
 };
-pub use nquads_line::Kind;
+pub use nquads_line::{Kind, TermTextFault, line_bytes, read_term, write_term};
 pub use reader::{LineReader, read_document};
 pub use writer::write_quads;

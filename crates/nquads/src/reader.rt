@@ -1,15 +1,17 @@
 ghost use Rattle.std.specs.Prelude.{◌≡◌, ℕ, List, [], ◌∷◌, ◌++◌, IfOk, IfErr, IfSome, IsNone, OnOk, OnErr, Some, None, Err, IsTrue, ◌&&◌, ◌==◌, length};
+ghost use Rattle.std.specs.List.{All};
 ghost use Rattle.std.specs.Option.{option_to_list};
 ghost use Rattle.std.specs.declared.option.Option.{Option};
 ghost use Rattle.rdf_term.specs.Statement.{Statement};
+ghost use Rattle.rdf_term.specs.Validity.{IsValidQuad};
 ghost use Rattle.nquads_line.specs.declared.kind.Kind.{Kind};
 ghost use Rattle.nquads_line.specs.Grammar.{IsLine, IsShortQuad};
 ghost use Rattle.nquads.specs.Lines.{cut, is_end, no_end};
 ghost use Rattle.nquads.specs.Documents.{IsDocument, FirstBad, IsRefused, UnlessMemory, line_number};
-ghost use Rattle.nquads.specs.State.{new_reader, Stands, Feeds, FailsAt, Stops, Finishes};
+ghost use Rattle.nquads.specs.State.{new_reader, Stands, Feeds, FailsAt, Stops, Finishes, AppendsValid};
 
 use crate::{DataFault, Kind};
-use nquads_line::{LineFault, read_line};
+use nquads_line::{LineFault, LineScanner};
 use rdf_term::{Memory, Quads};
 use std::alloc::Global;
 use std::marker::Model;
@@ -18,10 +20,11 @@ use std::marker::Model;
 /// and inside a character.
 ///
 /// Lines that stand whole in a piece are read from it without a copy. What is kept of a piece is
-/// the beginning of a line that has not ended.
+/// the beginning of a line that has not ended. The reader keeps the room of the longest line for
+/// the lines after it.
 #[derive(Drop)]
 pub struct LineReader {
-    alloc: Global,
+    scanner: LineScanner,
     kind: Kind,
     line: Vec<u8>,
     after_cr: bool,
@@ -43,7 +46,7 @@ impl LineReader {
         ensures { IfOk result (λ reader. reader ≡ new_reader kind) }
     {
         Ok(LineReader {
-            alloc,
+            scanner: LineScanner::new(alloc),
             kind,
             line: Vec::new(alloc),
             after_cr: false,
@@ -63,6 +66,7 @@ impl LineReader {
             → FailsAt kind taken piece.now fault out.old out.new)) }
         ensures prefix { OnErr result ((kind : Kind) (taken : List ℕ) → Stands self.old kind taken
             → Stops kind taken piece.now out.old out.new) }
+        ensures valid { AppendsValid out.old out.new }
         ensures again { IfSome self.old.fault (λ fault. (result ≡ Err fault) × (self.new ≡ self.old) × (out.new ≡ out.old)) }
         ensures err { IfErr result (λ fault. self.new.fault ≡ Some fault) }
     {
@@ -86,6 +90,7 @@ impl LineReader {
         ensures refused { IfErr result (λ fault. UnlessMemory fault ((kind : Kind) (taken : List ℕ) → Stands self.old kind taken
             → IsRefused kind (cut taken).rest (line_number (length (cut taken).ended)) fault)) }
         ensures unchanged { OnErr result (out.new ≡ out.old) }
+        ensures valid { AppendsValid out.old out.new }
         ensures again { IfSome self.old.fault (λ fault. (result ≡ Err fault) × (self.new ≡ self.old)) }
         ensures err { IfErr result (λ fault. self.new.fault ≡ Some fault) }
     {
@@ -93,7 +98,8 @@ impl LineReader {
             return Err(fault);
         }
         let number = self.ended.saturating_add(1);
-        if let Err(fault) = append_line(self.alloc, self.kind, self.line.as_slice(), number, out) {
+        let last = self.line.as_slice();
+        if let Err(fault) = append_line(&mut self.scanner, self.kind, last, number, out) {
             self.fault = Some(fault);
             return Err(fault);
         }
@@ -111,6 +117,7 @@ impl LineReader {
             → FailsAt kind taken piece.now fault out.old out.new)) }
         ensures prefix { OnErr result ((kind : Kind) (taken : List ℕ) → Stands self.old kind taken
             → Stops kind taken piece.now out.old out.new) }
+        ensures valid { AppendsValid out.old out.new }
     {
         let mut rest = piece;
         while let Some((line, end, after)) = next_line(rest) {
@@ -131,6 +138,7 @@ impl LineReader {
         ensures refused { IfErr result (λ fault. UnlessMemory fault ((kind : Kind) (taken : List ℕ) → Stands self.old kind taken
             → FailsAt kind taken (line.now ++ end ∷ []) fault out.old out.new)) }
         ensures unchanged { OnErr result (out.new ≡ out.old) }
+        ensures valid { AppendsValid out.old out.new }
     {
         let skips = self.after_cr & line.is_empty() & (end == b'\n');
         self.after_cr = end == b'\r';
@@ -148,15 +156,17 @@ impl LineReader {
         ensures refused { IfErr result (λ fault. UnlessMemory fault
             (IsRefused self.old.kind (self.old.line ++ line.now) (line_number self.old.ended) fault)) }
         ensures unchanged { OnErr result (out.new ≡ out.old) }
+        ensures valid { AppendsValid out.old out.new }
     {
         let number = self.ended.saturating_add(1);
         if self.line.is_empty() {
-            append_line(self.alloc, self.kind, line, number, out)?;
+            append_line(&mut self.scanner, self.kind, line, number, out)?;
             self.ended = number;
             return Ok(());
         }
         self.line.extend_from_slice(line)?;
-        append_line(self.alloc, self.kind, self.line.as_slice(), number, out)?;
+        let whole = self.line.as_slice();
+        append_line(&mut self.scanner, self.kind, whole, number, out)?;
         self.line.clear();
         self.ended = number;
         Ok(())
@@ -189,7 +199,7 @@ fn next_line(bytes: &[u8]) -> Option<(&[u8], u8, &[u8])>
 
 /// Appends the quad of a line, where it has one.
 fn append_line(
-    alloc: Global,
+    scanner: &mut LineScanner,
     kind: Kind,
     line: &[u8],
     number: u64,
@@ -198,8 +208,9 @@ fn append_line(
     ensures ok { OnOk result ((q : Option Statement) × IsLine kind line.now q × IsShortQuad q × (out.new ≡ out.old ++ option_to_list q)) }
     ensures refused { IfErr result (λ fault. UnlessMemory fault (IsRefused kind line.now number fault)) }
     ensures unchanged { OnErr result (out.new ≡ out.old) }
+    ensures valid { AppendsValid out.old out.new }
 {
-    match read_line(alloc, kind, line) {
+    match scanner.read(kind, line) {
         Ok(None) => Ok(()),
         Ok(Some(quad)) => match out.push(quad) {
             Ok(()) => Ok(()),
@@ -215,6 +226,7 @@ fn append_line(
 /// is refused.
 pub fn read_document(alloc: Global, kind: Kind, bytes: &[u8]) -> Result<Quads, DataFault>
     ensures ok { IfOk result (λ quads. IsDocument kind bytes.now quads) }
+    ensures valid { IfOk result (λ quads. All IsValidQuad quads) }
     ensures refused { IfErr result (λ fault. UnlessMemory fault (FirstBad kind bytes.now fault)) }
 {
     let Ok(mut reader) = LineReader::new(alloc, kind) else {

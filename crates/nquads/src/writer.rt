@@ -1,7 +1,9 @@
 ghost use Rattle.std.specs.Prelude.{◌≡◌, ◌≤◌, ◌++◌, length, OnOk, OnErr, codes, encode_utf8_all, MatchResult};
 ghost use Rattle.rdf_term.specs.Canonical.{term_text, canonical_line, canonical_triple};
 ghost use Rattle.rdf_term.specs.Writing.{Appends, Extends};
-ghost use Rattle.nquads.specs.Written.{IsNextTriple, triple_parts, graph_part, document_text};
+ghost use Rattle.nquads.specs.Written.{document_text};
+ghost use Rattle.nquads.specs.Steps.{IsNextTriple};
+ghost use Rattle.nquads_line.specs.Parts.{triple_parts, graph_part};
 ghost use Rattle.nquads_line.specs.declared.kind.Kind.TheVariants.{Triples as AsTriples, Quads as AsQuads};
 
 use crate::Kind;

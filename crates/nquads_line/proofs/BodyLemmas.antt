@@ -3,9 +3,11 @@ use Rattle.std.proofs.Common.{◌≡◌, ℕ, suc, zero, ◌+◌, List, [], ◌�
 use Rattle.std.specs.List.{flat_map, list_all, prefix_len}
 use Rattle.std.proofs.lemmas.List.{take-append-drop}
 use Rattle.std.proofs.Math.Seq.{take-append_seam, drop-append_seam}
+use Rattle.rdf_term.specs.Classes.{is_hex_digit}
+use Rattle.rdf_term.specs.Escapes.{echar_meaning}
 use Rattle.nquads_line.specs.declared.quoted.Quoted.{Quoted}
 use Rattle.nquads_line.specs.declared.quoted.Quoted.TheVariants.{Iri, Literal}
-use Rattle.nquads_line.specs.Written.{Piece, Raw, Short, Four, Eight, IsWritten, spelling, meaning, short_meaning, hex_value, is_hex, is_raw, is_short_escape, is_meant, is_piece, closing, is_hex_digit}
+use Rattle.nquads_line.specs.Written.{Piece, Raw, Short, Four, Eight, IsWritten, spelling, meaning, hex_value, is_hex, is_raw, is_short_escape, is_meant, is_piece, closing}
 use lib.Utf8.{scalar}
 use Rattle.nquads_line.specs.Reading.{with_front, hex_at, escape_at, if_meant, piece_at, after_piece, body_at}
 use Rattle.nquads_line.proofs.ReadLemmas.{body_skip, front_front}
@@ -41,7 +43,7 @@ escape_ok form (e ∷ cs) x h m =
           sym (ap (λ y. y.0) g.1),
         ))
         | inr l ↦ elim (chosen (is_short_escape form e) _ _ _ l.1) [
-          | inl s ↦ (let same : x ≡ (short_meaning e, 1) = cc in
+          | inl s ↦ (let same : x ≡ (echar_meaning e, 1) = cc in
               (Short e, s.0, ap (λ y. 92 ∷ take y.1 (e ∷ cs)) (sym same), sym (ap (λ y. y.0) same)))
           | inr s ↦ cc
         ]
@@ -116,7 +118,7 @@ no_U : (form : Quoted) → is_short_escape form 85 ≡ false
 no_U Iri = refl
 no_U Literal = refl
 
-short_meant : (form : Quoted) (e : ℕ) → is_short_escape form e ≡ true → is_meant form (short_meaning e) ≡ true
+short_meant : (form : Quoted) (e : ℕ) → is_short_escape form e ≡ true → is_meant form (echar_meaning e) ≡ true
 short_meant Iri e h = cc
 short_meant Literal e h = refl
 
@@ -152,10 +154,10 @@ piece_again form (Raw c) more h =
     ∙ ap (λ r. after_piece r (λ k. body_at form more k))
     (take_else (c == 92) _ _ (unequal (is_raw form) 92 c (raw_slash form) h) ∙ take_then (is_raw form c) (Some (c, 0)) None h)
 piece_again form (Short e) more h =
-    slashed form (e ∷ more) (short_meaning e) 1
+    slashed form (e ∷ more) (echar_meaning e) 1
     (take_else (e == 117) _ _ (unequal (is_short_escape form) 117 e (no_u form) h)
     ∙ take_else (e == 85) _ _ (unequal (is_short_escape form) 85 e (no_U form) h)
-    ∙ take_then (is_short_escape form e) (Some (short_meaning e, 1)) None h)
+    ∙ take_then (is_short_escape form e) (Some (echar_meaning e, 1)) None h)
     (short_meant form e h)
 piece_again form (Four hex) more h =
     let parts = split (is_hex 4 hex) (is_meant form (hex_value hex)) h in
@@ -168,7 +170,7 @@ piece_again form (Eight hex) more h =
 
 -- characters that stand as they are in front
 
-front_none : (r : Option (List ℕ × List ℕ)) → with_front [] r ≡ r
+pub front_none : (r : Option (List ℕ × List ℕ)) → with_front [] r ≡ r
 front_none None = refl
 front_none (Some x) = refl
 

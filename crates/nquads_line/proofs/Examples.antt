@@ -59,7 +59,7 @@ whole_line = record {
   graph = (codes "<http://e/g>", codes " ", refl, plain (codes "http://e/g") refl refl refl refl, refl);
   kinds = record { subject = tt; predicate = tt; graph = tt };
   longest = tt;
-  is_comment = refl;
+  is_comment = (refl, refl);
 }
 
 -- no line of the grammar
@@ -90,6 +90,11 @@ surrogate = refused Quads _ refl
 graph_in_triples : (r : Option Statement) → IsLineText Triples (codes "<u:s> <u:p> <u:o> <u:g> .") r → ⊥
 unfolding statement_at iri_at label_at literal_at tagged_at datatype_at
 graph_in_triples = refused Triples _ refl
+
+-- a comment ends where its line does
+two_lines : (r : Option Statement) → IsLineText Quads (codes "# a\n<u:s> <u:p> <u:o> .") r → ⊥
+unfolding statement_at iri_at label_at literal_at tagged_at datatype_at
+two_lines = refused Quads _ refl
 
 -- a literal typed as xsd:string is a plain one
 abbrev string_line : List ℕ

@@ -1,5 +1,7 @@
 pub mod BodyLemmas
+pub mod ByteLemmas
 pub mod Examples
+pub mod FaultLemmas
 pub mod LabelLemmas
 pub mod LineLemmas
 pub mod ReadLemmas

@@ -1,8 +1,8 @@
 -- What is read as a line is a line of the grammar, and a line of the grammar is read.
-use Rattle.std.proofs.Common.{◌≡◌, ℕ, List, [], ◌∷◌, ◌++◌, Bool, true, false, ◌==◌, ◌||◌, refl, ap, ◌∙◌, sym, subst, append_assoc, append-nil, Option, Some, None, inl, inr, codes, cond, length, ◌+◌}
-use Rattle.std.specs.List.{prefix_len}
-use Rattle.std.specs.Str.{IsUtf8, chars}
-use Rattle.std.proofs.lemmas.Str.{chars_from_encodes, encodes-chars, scalars-chars, encodes_same}
+use Rattle.std.proofs.Common.{◌≡◌, ℕ, List, [], ◌∷◌, ◌++◌, Bool, true, false, ◌==◌, ◌&&◌, ◌||◌, refl, ap, ◌∙◌, sym, subst, append_assoc, append-nil, Option, Some, None, ◌⊎◌, inl, inr, codes, cond, length, ◌+◌}
+use Rattle.std.specs.List.{list_all, prefix_len}
+use Rattle.std.specs.Str.{IsUtf8, is_utf8, chars}
+use Rattle.std.proofs.lemmas.Str.{chars_from_encodes, encodes-chars, scalars-chars, encodes_same, IsUtf8-from_is_utf8, is_utf8-from_IsUtf8}
 use Rattle.rdf_term.specs.declared.term.Term.{Term}
 use Rattle.rdf_term.specs.declared.term.Term.TheVariants.{Iri, Blank, Plain, Tagged, Typed}
 use Rattle.rdf_term.specs.declared.graph.Graph.{Graph}
@@ -11,20 +11,20 @@ use Rattle.rdf_term.specs.Statement.{Statement}
 use Rattle.rdf_term.specs.Terms.{IsResource, IsIri, IsGraph}
 use Rattle.nquads_line.specs.declared.kind.Kind.{Kind}
 use Rattle.nquads_line.specs.declared.kind.Kind.TheVariants.{Triples, Quads}
-use Rattle.nquads_line.specs.Terms.{IsIriRef, IsTermText, is_space, is_blank}
+use Rattle.nquads_line.specs.Terms.{IsIriRef, IsTermText, is_space, is_comment_char, is_blank}
 use Rattle.nquads_line.specs.Grammar.{IsLongest, IsComment, IsGraphText, IsStatementLine, IsLineText, IsLine, IsTerm}
-use Rattle.nquads_line.specs.Reading.{◌>>=◌, skip, mark_at, iri_at, one_more, label_len, is_tag_char, resource_at, term_at, as_graph, graph_at, end_at, statement_at, as_quad, line_from, line_at, if_all, whole_term_at}
+use Rattle.nquads_line.specs.Reading.{◌>>=◌, skip, mark_at, iri_at, one_more, label_len, is_tag_char, resource_at, term_at, as_graph, graph_at, end_at, statement_at, as_quad, as_none, line_from, line_at, if_all, whole_term_at}
 use Rattle.nquads_line.proofs.LabelLemmas.{longest_again}
 use Rattle.nquads_line.proofs.TermLemmas.{skip_ok, skip_again, iri_ok, iri_again, resource_ok, term_ok, NoSuffix, Stops, resource_again, term_again, typed_begins, tagged_begins}
-use Rattle.nquads_line.proofs.Steps.{chosen, take_else, both, split, either, equal, bind_ok, step, mark_ok}
+use Rattle.nquads_line.proofs.Steps.{chosen, take_then, take_else, both, split, either, equal, true_or_false, bind_ok, step, mark_ok}
 
 -- from the reading to the grammar
 
 end_ok : (cs : List ℕ) (x : Unit {0}) → end_at cs ≡ Some x → IsComment cs
 end_ok [] x e = tt
 end_ok (c ∷ cs) x e =
-    elim (chosen (c == 35) _ _ _ e) [
-      | inl h ↦ equal c 35 h.0
+    elim (chosen (c == 35 && list_all is_comment_char cs) _ _ _ e) [
+      | inl h ↦ (let parts = split (c == 35) (list_all is_comment_char cs) h.0 in (equal c 35 parts.0, parts.1))
       | inr h ↦ cc
     ]
 
@@ -97,8 +97,10 @@ from_ok kind blank [] r b e =
     subst (IsLineText kind (blank ++ [])) same (record { blank = blank; comment = []; written = refl; is_blank_text = b; is_comment = tt })
 from_ok kind blank (c ∷ cs) r b e =
     elim (chosen (c == 35) _ _ _ e) [
-      | inl h ↦ (let same : None ≡ r = cc in
-          subst (IsLineText kind (blank ++ c ∷ cs)) same (record { blank = blank; comment = c ∷ cs; written = refl; is_blank_text = b; is_comment = equal c 35 h.0 }))
+      | inl h ↦ (let n = bind_ok (end_at (c ∷ cs)) as_none r h.1 in
+          let same : None ≡ r = (let f = n.2 in cc) in
+          subst (IsLineText kind (blank ++ c ∷ cs)) same
+          (record { blank = blank; comment = c ∷ cs; written = refl; is_blank_text = b; is_comment = end_ok (c ∷ cs) n.0 n.1 }))
       | inr h ↦ (let q = bind_ok (statement_at kind (c ∷ cs)) as_quad r h.1 in
           let same : Some q.0 ≡ r = (let f = q.2 in cc) in
           subst (IsLineText kind (blank ++ c ∷ cs)) same (statement_ok kind blank (c ∷ cs) q.0 b q.1))
@@ -198,7 +200,7 @@ label_stops (c ∷ blank) cs b z = label_space c (blank ++ cs) (split (is_space 
 
 comment_stops : (cs : List ℕ) → IsComment cs → label_len cs ≡ 0
 comment_stops [] h = refl
-comment_stops (c ∷ cs) h = ap (λ d. label_len (d ∷ cs)) h
+comment_stops (c ∷ cs) h = ap (λ d. label_len (d ∷ cs)) h.0
 
 dot_stops : (cs : List ℕ) → label_len cs ≡ 0 → label_len (46 ∷ cs) ≡ 0
 dot_stops cs z = ap one_more z
@@ -224,7 +226,7 @@ graph_again Quads text rest (Named name) h k z =
 
 end_again : (cs : List ℕ) → IsComment cs → end_at (skip cs) ≡ Some tt
 end_again [] h = refl
-end_again (c ∷ cs) h = ap (λ d. end_at (skip (d ∷ cs))) h
+end_again (c ∷ cs) h = ap (λ d. end_at (skip (d ∷ cs))) h.0 ∙ take_then (list_all is_comment_char cs) (Some tt) None h.1
 
 iri_of : (t : Term) → IsIri t → (iri : List ℕ) × (t ≡ Iri iri)
 iri_of (Iri iri) k = (iri, refl)
@@ -270,7 +272,9 @@ line_again kind text None h = ap (λ t. line_from kind (skip t)) h.written ∙ a
   where
     commented : (cs : List ℕ) → IsComment cs → line_from kind (skip cs) ≡ Some None
     commented [] k = refl
-    commented (c ∷ cs) k = ap (λ d. line_from kind (skip (d ∷ cs))) k
+    commented (c ∷ cs) k =
+        ap (λ d. line_from kind (skip (d ∷ cs))) k.0
+        ∙ ap (λ n. n >>= as_none) (take_then (list_all is_comment_char cs) (Some tt) None k.1)
 line_again kind text (Some q) h =
     let w = resource_begins q.s h.s h.kinds.subject h.subject in
     let after_s = h.blank1 ++ (h.p' ++ (h.blank2 ++ (h.o ++ (h.blank3 ++ (h.c ++ (codes "." ++ (h.blank4 ++ h.comment))))))) in
@@ -295,6 +299,20 @@ line_refused kind bytes items u same e r h =
     let told : h.0 ≡ items = chars_from_encodes h.0 bytes u h.2 ∙ sym same in
     let read : line_at kind items ≡ Some r = subst (λ l. line_at kind l ≡ Some r) told (line_again kind h.0 r h.3) in
     cc
+
+-- a text is a line, or it is none
+pub line_or_none : (kind : Kind) (bytes : List ℕ)
+    → ((q : Option Statement) × IsLine kind bytes q) ⊎ ((q : Option Statement) → IsLine kind bytes q → ⊥)
+line_or_none kind bytes =
+    elim (true_or_false (is_utf8 bytes)) [
+      | inl u ↦ at (IsUtf8-from_is_utf8 bytes u) (line_at kind (chars bytes)) refl
+      | inr n ↦ inr (λ q h. (let z : true ≡ false = sym (is_utf8-from_IsUtf8 bytes (h.0, (h.1, h.2))) ∙ n in cc))
+    ]
+  where
+    at : IsUtf8 bytes → (r : Option (Option Statement)) → line_at kind (chars bytes) ≡ r
+        → ((q : Option Statement) × IsLine kind bytes q) ⊎ ((q : Option Statement) → IsLine kind bytes q → ⊥)
+    at u (Some q) e = inl (q, line_read kind bytes (chars bytes) q u refl e)
+    at u None e = inr (line_refused kind bytes (chars bytes) u refl e)
 
 pub line_once : (kind : Kind) (bytes : List ℕ) (q r : Option Statement) → IsLine kind bytes q → IsLine kind bytes r → q ≡ r
 line_once kind bytes q r h k =

@@ -10,6 +10,7 @@ use Rattle.rdf_term.specs.declared.term.Term.TheVariants.{Iri, Blank, Plain, Tag
 use Rattle.rdf_term.specs.Terms.{IsResource}
 use Rattle.rdf_term.specs.Classes.{is_letter, is_digit}
 use Rattle.rdf_term.specs.Validity.{has_scheme, is_label, is_tag, is_tag_from, xsd_string}
+use Rattle.rdf_term.specs.TagLaws.{is_tag-automaton}
 use Rattle.nquads_line.specs.declared.quoted.Quoted.TheVariants as quoted
 use Rattle.nquads_line.specs.Terms.{IsIriRef, IsString, IsTypedText, IsTaggedText, IsTermText, is_space, is_blank}
 use Rattle.nquads_line.specs.Grammar.{IsLongest}
@@ -96,7 +97,7 @@ tag_len_exact begun d (c ∷ cs) rest h z =
 
 tag_again : (tag rest : List ℕ) → is_tag tag ≡ true → prefix_len is_tag_char rest ≡ 0 → tag_at (tag ++ rest) ≡ Some (tag, rest)
 tag_again tag rest h z =
-    ap (cut (tag ++ rest)) (tag_len_exact false false tag rest h z)
+    ap (cut (tag ++ rest)) (tag_len_exact false false tag rest (sym (is_tag-automaton tag) ∙ h) z)
     ∙ ap (λ t. parted t (drop (length tag) (tag ++ rest))) (take-append_seam tag rest)
     ∙ ap (parted tag) (drop-append_seam tag rest) ∙ take_then (is_tag tag) (Some (tag, rest)) None h
   where

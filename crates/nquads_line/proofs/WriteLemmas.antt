@@ -21,7 +21,7 @@ pair_ascii d h zero = omega arith
 pair_ascii d h (suc zero) = h
 pair_ascii d h (suc (suc n)) = omega arith
 
-one_ascii : (d : ℕ) → d < 128 → IsAscii (d ∷ [])
+pub one_ascii : (d : ℕ) → d < 128 → IsAscii (d ∷ [])
 one_ascii d h zero = h
 one_ascii d h (suc n) = omega arith
 
@@ -69,12 +69,12 @@ around a b t ha hb =
 nil_ascii : IsAscii []
 nil_ascii n = omega arith
 
-two_ascii : (c d : ℕ) → c < 128 → d < 128 → IsAscii (c ∷ d ∷ [])
+pub two_ascii : (c d : ℕ) → c < 128 → d < 128 → IsAscii (c ∷ d ∷ [])
 two_ascii c d h k zero = h
 two_ascii c d h k (suc zero) = k
 two_ascii c d h k (suc (suc n)) = omega arith
 
-three_ascii : (c d e : ℕ) → c < 128 → d < 128 → e < 128 → IsAscii (c ∷ d ∷ e ∷ [])
+pub three_ascii : (c d e : ℕ) → c < 128 → d < 128 → e < 128 → IsAscii (c ∷ d ∷ e ∷ [])
 three_ascii c d e h k l zero = h
 three_ascii c d e h k l (suc zero) = k
 three_ascii c d e h k l (suc (suc zero)) = l

@@ -11,7 +11,7 @@ use Rattle.rdf_term.specs.Terms.{first, second}
 use Rattle.rdf_term.specs.Validity.{is_label, is_short, IsValidQuad}
 use Rattle.nquads_line.specs.declared.kind.Kind.{Kind}
 use Rattle.nquads_line.specs.declared.kind.Kind.TheVariants.{Triples, Quads}
-use Rattle.nquads_line.specs.Terms.{IsTermText, is_blank}
+use Rattle.nquads_line.specs.Terms.{IsTermText, is_blank, is_comment_char}
 
 -- a blank node's label is the longest one that can stand there, before what comes after it
 abbrev pub IsLongest : Term → List ℕ → Type 0
@@ -21,10 +21,10 @@ IsLongest (Plain t) after = Unit {0}
 IsLongest (Tagged t u) after = Unit {0}
 IsLongest (Typed t u) after = Unit {0}
 
--- nothing, or # and the rest of the line
+-- nothing, or # and characters other than CR and LF
 abbrev pub IsComment : List ℕ → Type 0
 IsComment [] = Unit {0}
-IsComment (c ∷ cs) = c ≡ 35
+IsComment (c ∷ cs) = (c ≡ 35) × IsTrue (list_all is_comment_char cs)
 
 -- ( graphLabel ws* )?, and no label in N-Triples
 abbrev pub IsGraphText : Kind → List ℕ → Graph → Type 0

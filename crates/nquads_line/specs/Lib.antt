@@ -1,6 +1,7 @@
+pub mod Faults
 pub mod Grammar
 pub mod Laws
+pub mod Parts
 pub mod Reading
-pub mod Sizes
 pub mod Terms
 pub mod Written

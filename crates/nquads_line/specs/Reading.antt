@@ -1,6 +1,6 @@
 -- What the functions of the reader give, each as one function on lists. The grammar above it is `Grammar`.
-use Rattle.std.specs.Prelude.{◌≡◌, ℕ, ◌+◌, List, [], ◌∷◌, ◌++◌, Option, Some, None, Bool, suc, zero, ◌==◌, ◌||◌, if◌then◌else◌, take, drop, length}
-use Rattle.std.specs.List.{prefix_len}
+use Rattle.std.specs.Prelude.{◌≡◌, ℕ, ◌+◌, List, [], ◌∷◌, ◌++◌, Option, Some, None, Bool, suc, zero, ◌==◌, ◌&&◌, ◌||◌, if◌then◌else◌, take, drop, length}
+use Rattle.std.specs.List.{list_all, prefix_len}
 use Rattle.std.specs.Str.{bytes_eq}
 use Rattle.std.specs.declared.result.Result.{Result}
 use Rattle.std.specs.declared.result.Result.TheVariants.{Ok, Err}
@@ -9,6 +9,7 @@ use Rattle.rdf_term.specs.declared.term.Term.TheVariants as terms
 use Rattle.rdf_term.specs.declared.graph.Graph.{Graph}
 use Rattle.rdf_term.specs.declared.graph.Graph.TheVariants.{Absent, Named}
 use Rattle.rdf_term.specs.Statement.{Statement}
+use Rattle.rdf_term.specs.Escapes.{echar_meaning}
 use Rattle.rdf_term.specs.Classes.{is_digit, is_letter, pn_chars_u, pn_chars}
 use Rattle.rdf_term.specs.Validity.{has_scheme, is_tag, xsd_string}
 use Rattle.nquads_line.specs.declared.kind.Kind.{Kind}
@@ -17,8 +18,8 @@ use Rattle.nquads_line.specs.declared.fault.LineFault.{LineFault}
 use Rattle.nquads_line.specs.declared.fault.LineFault.TheVariants.{Bad, TooLong, Memory}
 use Rattle.nquads_line.specs.declared.quoted.Quoted.{Quoted}
 use Rattle.nquads_line.specs.declared.quoted.Quoted.TheVariants.{Iri, Literal}
-use Rattle.nquads_line.specs.Written.{short_meaning, hex_value, is_hex, closing, is_raw, is_short_escape, is_meant}
-use Rattle.nquads_line.specs.Terms.{is_space}
+use Rattle.nquads_line.specs.Written.{hex_value, is_hex, closing, is_raw, is_short_escape, is_meant}
+use Rattle.nquads_line.specs.Terms.{is_space, is_comment_char}
 
 -- one step after another
 infixl 10 ◌>>=◌
@@ -61,7 +62,7 @@ abbrev pub escape_at : Quoted → List ℕ → Option (ℕ × ℕ)
 escape_at form [] = None
 escape_at form (e ∷ cs) =
     if e == 117 then hex_at 4 cs else if e == 85 then hex_at 8 cs
-    else if is_short_escape form e then Some (short_meaning e, 1) else None
+    else if is_short_escape form e then Some (echar_meaning e, 1) else None
 
 -- the character that the first piece means, and how many characters it took after its first
 abbrev pub if_meant : Quoted → Option (ℕ × ℕ) → Option (ℕ × ℕ)
@@ -179,7 +180,7 @@ graph_at Quads (c ∷ cs) = if c == 46 then Some (Absent, c ∷ cs) else resourc
 -- nothing, or a comment
 abbrev pub end_at : List ℕ → Option (Unit {0})
 end_at [] = Some tt
-end_at (c ∷ cs) = if c == 35 then Some tt else None
+end_at (c ∷ cs) = if c == 35 && list_all is_comment_char cs then Some tt else None
 
 -- a statement that begins here
 unfoldable pub statement_at : Kind → List ℕ → Option Statement
@@ -196,9 +197,12 @@ statement_at kind cs = do
 abbrev pub as_quad : Statement → Option (Option Statement)
 as_quad q = Some (Some q)
 
+abbrev pub as_none : Unit {0} → Option (Option Statement)
+as_none x = Some None
+
 abbrev pub line_from : Kind → List ℕ → Option (Option Statement)
 line_from kind [] = Some None
-line_from kind (c ∷ cs) = if c == 35 then Some None else statement_at kind (c ∷ cs) >>= as_quad
+line_from kind (c ∷ cs) = if c == 35 then end_at (c ∷ cs) >>= as_none else statement_at kind (c ∷ cs) >>= as_quad
 
 abbrev pub line_at : Kind → List ℕ → Option (Option Statement)
 line_at kind cs = line_from kind (skip cs)

@@ -1,5 +1,5 @@
 -- The grammar of one term: RDF 1.1 N-Triples, section 7, and this product's own rules beside it.
-use Rattle.std.specs.Prelude.{◌≡◌, ◌≢◌, ℕ, ◌⊎◌, List, ◌++◌, Bool, IsTrue, codes}
+use Rattle.std.specs.Prelude.{◌≡◌, ◌≢◌, ℕ, ◌⊎◌, List, ◌++◌, Bool, not, IsTrue, codes}
 use Rattle.std.specs.List.{list_all}
 use Rattle.rdf_term.specs.declared.term.Term.{Term}
 use Rattle.rdf_term.specs.declared.term.Term.TheVariants.{Iri, Blank, Plain, Tagged, Typed}
@@ -11,6 +11,10 @@ use Rattle.nquads_line.specs.Written.{IsWritten}
 -- space or tab
 abbrev pub is_space : ℕ → Bool
 is_space = is_one_of (codes " \t")
+
+-- a character of a comment, which ends where its line does
+abbrev pub is_comment_char : ℕ → Bool
+is_comment_char c = not (is_one_of (codes "\r\n") c)
 
 -- ws*
 abbrev pub is_blank : List ℕ → Bool

@@ -1,9 +1,10 @@
 -- How the characters of an IRI or a string are written: RDF 1.1 N-Triples, section 7, IRIREF and STRING_LITERAL_QUOTE.
-use Rattle.std.specs.Prelude.{◌≡◌, ℕ, ◌+◌, ◌*◌, List, [], ◌∷◌, ◌++◌, length, fold, map, IsTrue, Bool, true, false, ◌==◌, ◌&&◌, if◌then◌else◌, codes}
+use Rattle.std.specs.Prelude.{◌≡◌, ℕ, ◌+◌, ◌*◌, List, [], ◌∷◌, ◌++◌, length, fold, map, IsTrue, Bool, true, false, ◌==◌, ◌&&◌, codes}
 use Rattle.std.specs.List.{flat_map, list_all}
 use Rattle.std.specs.Char.{digit_value}
 use lib.Utf8.{scalar}
-use Rattle.rdf_term.specs.Classes.{is_in, is_iri_char, is_string_char, is_one_of}
+use Rattle.rdf_term.specs.Classes.{is_hex_digit, is_iri_char, is_string_char}
+use Rattle.rdf_term.specs.Escapes.{is_echar, echar_meaning}
 use Rattle.nquads_line.specs.declared.quoted.Quoted.{Quoted}
 use Rattle.nquads_line.specs.declared.quoted.Quoted.TheVariants.{Iri, Literal}
 
@@ -21,12 +22,6 @@ spelling (Short e) = codes "\\" ++ e ∷ []
 spelling (Four hex) = codes "\\u" ++ hex
 spelling (Eight hex) = codes "\\U" ++ hex
 
--- what ECHAR means: tab, backspace, line feed, form feed, carriage return, or the mark itself
-abbrev pub short_meaning : ℕ → ℕ
-short_meaning e =
-    if e == 116 then 9 else if e == 98 then 8 else if e == 110 then 10
-    else if e == 102 then 12 else if e == 114 then 13 else e
-
 -- the number that hexadecimal digits name
 abbrev pub hex_value : List ℕ → ℕ
 hex_value hex = fold (λ n h. n * 16 + digit_value h) 0 hex
@@ -34,13 +29,9 @@ hex_value hex = fold (λ n h. n * 16 + digit_value h) 0 hex
 -- the character that is meant
 abbrev pub meaning : Piece → ℕ
 meaning (Raw c) = c
-meaning (Short e) = short_meaning e
+meaning (Short e) = echar_meaning e
 meaning (Four hex) = hex_value hex
 meaning (Eight hex) = hex_value hex
-
--- HEX ::= [0-9] | [A-F] | [a-f]
-abbrev pub is_hex_digit : ℕ → Bool
-is_hex_digit = is_in ((0x30, 0x39) ∷ (0x41, 0x46) ∷ (0x61, 0x66) ∷ [])
 
 -- the digits of a UCHAR, which names a Unicode scalar value
 abbrev pub is_hex : ℕ → List ℕ → Bool
@@ -59,7 +50,7 @@ is_raw Literal = is_string_char
 -- ECHAR ::= '\' [tbnrf"'\], in a string alone
 abbrev pub is_short_escape : Quoted → ℕ → Bool
 is_short_escape Iri e = false
-is_short_escape Literal e = is_one_of (codes "tbnrf\"'\\") e
+is_short_escape Literal e = is_echar e
 
 -- the characters that may be meant: an IRI holds, after its escapes are replaced too, none that IRIREF leaves out
 abbrev pub is_meant : Quoted → ℕ → Bool

@@ -1,13 +1,14 @@
-ghost use Rattle.std.specs.Prelude.{◌≡◌, IfOk};
+ghost use Rattle.std.specs.Prelude.{◌≡◌, OnOk};
 ghost use Rattle.std.specs.Str.{chars};
 
-use std::alloc::{AllocError, Global};
+use std::alloc::AllocError;
 
-/// The characters of a text. Memory for them is taken once.
-pub fn characters(alloc: Global, text: &str) -> Result<Vec<char>, AllocError>
-    ensures { IfOk result (λ characters. characters.items ≡ chars text.now) }
+/// Puts the characters of a text in the place of what the buffer holds. Memory is taken at most
+/// once, where the buffer has too little.
+pub fn decode(text: &str, buffer: &mut Vec<char>) -> Result<(), AllocError>
+    ensures { OnOk result (buffer.new.items ≡ chars text.now) }
 {
-    let mut characters = Vec::with_capacity(alloc, text.len())?;
-    characters.extend(text.chars())?;
-    Ok(characters)
+    buffer.clear();
+    buffer.reserve(text.len())?;
+    buffer.extend(text.chars())
 }

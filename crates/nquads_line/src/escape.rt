@@ -1,11 +1,12 @@
 ghost use Rattle.std.specs.Prelude.{◌≡◌, ◌≤◌, ◌+◌, ◌<◌, IsTrue, IfOk, SomeIff, length, drop};
 ghost use Rattle.std.specs.List.{list_all, prefix_len};
-ghost use Rattle.nquads_line.specs.Written.{is_hex_digit, hex_value, is_raw};
-ghost use Rattle.nquads_line.specs.Reading.{Gives, hex_at, escape_at, piece_at, body_at};
+ghost use Rattle.rdf_term.specs.Classes.{is_hex_digit};
+ghost use Rattle.nquads_line.specs.Written.{hex_value, is_raw};
+ghost use Rattle.nquads_line.specs.Reading.{Gives, with_front, hex_at, escape_at, piece_at, body_at};
 
 use crate::LineFault;
 use crate::quoted::Quoted;
-use rdf_term::Text;
+use rdf_term::{Memory, Text, echar};
 use std::alloc::Global;
 
 /// The number that at most eight hexadecimal digits name.
@@ -56,14 +57,9 @@ fn escape(form: Quoted, chars: &[char]) -> Result<(char, usize), LineFault>
             if form == Quoted::Iri {
                 return Err(LineFault::Bad);
             }
-            match mark {
-                't' => Ok(('\t', 1)),
-                'b' => Ok(('\u{8}', 1)),
-                'n' => Ok(('\n', 1)),
-                'f' => Ok(('\u{c}', 1)),
-                'r' => Ok(('\r', 1)),
-                '"' | '\'' | '\\' => Ok((mark, 1)),
-                _ => Err(LineFault::Bad),
+            match echar(mark) {
+                Some(character) => Ok((character, 1)),
+                None => Err(LineFault::Bad),
             }
         }
     }
@@ -109,22 +105,33 @@ fn raw_len(form: Quoted, chars: &[char]) -> usize
     chars.len()
 }
 
+/// The text with those characters behind it that stand as they are before the first that does not,
+/// and what stands behind them.
+fn with_run<'a>(form: Quoted, text: Text, chars: &'a [char]) -> Result<(Text, &'a [char]), Memory>
+    ensures value { IfOk result (λ x. with_front x.0 (body_at form x.1.now 0) ≡ with_front text (body_at form chars.now 0)) }
+    ensures within { IfOk result (λ x. length x.1.now ≤ length chars.now) }
+{
+    let raw = raw_len(form, chars);
+    let longer = text.with_chars(&chars[..raw])?;
+    Ok((longer, &chars[raw..]))
+}
+
 /// The characters that are meant before the closing mark, and what stands after it.
 ///
-/// Those before the first escape are taken at once.
+/// Those between escapes are taken at once.
 pub fn body(alloc: Global, form: Quoted, chars: &[char]) -> Result<(Text, &[char]), LineFault>
     ensures { Gives (λ x. (x.0, x.1.now)) result (body_at form chars.now 0) }
 {
-    let raw = raw_len(form, chars);
-    let mut text = Text::from_char_slice(alloc, &chars[..raw])?;
-    let mut rest = &chars[raw..];
+    let (mut text, mut rest) = with_run(form, Text::new(alloc), chars)?;
     while let Some((first, after)) = rest.split_first() {
         if *first == form.closing() {
             return Ok((text, after));
         }
         let (character, count) = piece(form, *first, after)?;
         text.push(character)?;
-        rest = behind(after, count);
+        let (longer, left) = with_run(form, text, behind(after, count))?;
+        text = longer;
+        rest = left;
     }
     Err(LineFault::Bad)
 }

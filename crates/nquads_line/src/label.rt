@@ -1,36 +1,17 @@
 ghost use Rattle.std.specs.Prelude.{◌≡◌, ◌≤◌, ◌||◌, length};
-ghost use Rattle.rdf_term.specs.Classes.{pn_chars_base, pn_chars_u, pn_chars, is_in, is_digit};
+ghost use Rattle.rdf_term.specs.Classes.{pn_chars_u, is_digit};
 ghost use Rattle.nquads_line.specs.Reading.{Gives, label_len, label_from, label_at};
 
 use crate::LineFault;
 use crate::space::after;
-use rdf_term::Text;
+use rdf_term::{Text, is_digit, is_pn_chars, is_pn_chars_u};
 use std::alloc::Global;
-
-/// PN_CHARS_BASE.
-fn is_base(character: char) -> bool
-    ensures { result ≡ is_in pn_chars_base character }
-{
-    matches!(character,
-        'A'..='Z' | 'a'..='z' | '\u{C0}'..='\u{D6}' | '\u{D8}'..='\u{F6}' | '\u{F8}'..='\u{2FF}'
-        | '\u{370}'..='\u{37D}' | '\u{37F}'..='\u{1FFF}' | '\u{200C}'..='\u{200D}'
-        | '\u{2070}'..='\u{218F}' | '\u{2C00}'..='\u{2FEF}' | '\u{3001}'..='\u{D7FF}'
-        | '\u{F900}'..='\u{FDCF}' | '\u{FDF0}'..='\u{FFFD}' | '\u{10000}'..='\u{EFFFF}')
-}
 
 /// PN_CHARS_U or a digit, with which a label begins.
 fn begins_label(character: char) -> bool
     ensures { result ≡ (pn_chars_u character || is_digit character) }
 {
-    is_base(character) || matches!(character, '_' | ':' | '0'..='9')
-}
-
-/// PN_CHARS.
-fn continues_label(character: char) -> bool
-    ensures { result ≡ pn_chars character }
-{
-    begins_label(character)
-        || matches!(character, '-' | '\u{B7}' | '\u{300}'..='\u{36F}' | '\u{203F}'..='\u{2040}')
+    is_pn_chars_u(character) || is_digit(character)
 }
 
 /// How many characters continue a label, of which the last is no dot.
@@ -41,7 +22,7 @@ fn label_len(chars: &[char]) -> usize
 {
     let mut count = 0;
     for (i, character) in chars.iter().enumerate() {
-        if continues_label(*character) {
+        if is_pn_chars(*character) {
             count = i + 1;
             continue;
         }

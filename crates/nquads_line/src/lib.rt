@@ -12,6 +12,7 @@ mod iri;
 mod kind;
 mod label;
 mod laws;
+mod lengths;
 mod line;
 mod literal;
 mod quoted;
@@ -19,13 +20,15 @@ mod size;
 mod space;
 mod tag;
 mod term;
-#[cfg(test)]
-mod tests;
 mod writer;
 
 pub use fault::{LineFault, TermTextFault};
 pub use kind::Kind;
-pub use laws::{one_line_reading, one_term_reading, quads_read_again, terms_read_again};
-pub use line::read_line;
+pub use laws::{
+    lines_are_decided, lines_are_valid, one_line_reading, one_term_reading, quads_read_again,
+    terms_are_valid, terms_read_again, texts_are_scalars,
+};
+pub use lengths::line_bytes;
+pub use line::{LineScanner, read_line};
 pub use term::read_term;
 pub use writer::write_term;

@@ -5,7 +5,7 @@ ghost use Rattle.rdf_term.specs.Terms.{IsGraph};
 ghost use Rattle.nquads_line.specs.Grammar.{IsLine, IsShortQuad, IsValidLine};
 ghost use Rattle.nquads_line.specs.Reading.{Gives, graph_at, statement_at, line_at};
 
-use crate::characters::characters;
+use crate::characters::decode;
 use crate::iri::iri;
 use crate::size::is_short_quad;
 use crate::space::{after, at_end, skip};
@@ -52,8 +52,51 @@ fn line_of(alloc: Global, kind: Kind, chars: &[char]) -> Result<Option<Quad>, Li
 {
     let rest = skip(chars);
     match rest {
-        [] | ['#', ..] => Ok(None),
+        [] => Ok(None),
+        ['#', ..] => {
+            at_end(rest)?;
+            Ok(None)
+        }
         _ => Ok(Some(statement(alloc, kind, rest)?)),
+    }
+}
+
+/// A reader of lines one after another, which keeps the room that their characters take.
+#[derive(Drop)]
+pub struct LineScanner {
+    alloc: Global,
+    characters: Vec<char>,
+}
+
+impl LineScanner {
+    /// A reader that has taken no memory yet.
+    pub fn new(alloc: Global) -> LineScanner {
+        LineScanner {
+            alloc,
+            characters: Vec::new(alloc),
+        }
+    }
+
+    /// The quad of a line, as [`read_line`] gives it.
+    pub fn read(&mut self, kind: Kind, line: &[u8]) -> Result<Option<Quad>, LineFault>
+        ensures ok { IfOk result (λ q. IsLine kind line.now q × IsShortQuad q × IsValidLine q) }
+        ensures bad { IsErrOf result LineFault.Bad → (q : Option Statement) → IsLine kind line.now q → ⊥ }
+        ensures long { IsErrOf result LineFault.TooLong → (q : Option Statement) × IsLine kind line.now q × (¬ (IsShortQuad q)) }
+    {
+        let Ok(text) = str::from_utf8(line) else {
+            return Err(LineFault::Bad);
+        };
+        decode(text, &mut self.characters)?;
+        match line_of(self.alloc, kind, self.characters.as_slice())? {
+            None => Ok(None),
+            Some(quad) => {
+                if is_short_quad(&quad) {
+                    Ok(Some(quad))
+                } else {
+                    Err(LineFault::TooLong)
+                }
+            }
+        }
     }
 }
 
@@ -67,18 +110,5 @@ pub fn read_line(alloc: Global, kind: Kind, line: &[u8]) -> Result<Option<Quad>,
     ensures bad { IsErrOf result LineFault.Bad → (q : Option Statement) → IsLine kind line.now q → ⊥ }
     ensures long { IsErrOf result LineFault.TooLong → (q : Option Statement) × IsLine kind line.now q × (¬ (IsShortQuad q)) }
 {
-    let Ok(text) = str::from_utf8(line) else {
-        return Err(LineFault::Bad);
-    };
-    let chars = characters(alloc, text)?;
-    match line_of(alloc, kind, chars.as_slice())? {
-        None => Ok(None),
-        Some(quad) => {
-            if is_short_quad(&quad) {
-                Ok(Some(quad))
-            } else {
-                Err(LineFault::TooLong)
-            }
-        }
-    }
+    LineScanner::new(alloc).read(kind, line)
 }

@@ -10,14 +10,12 @@ use crate::tag::tag;
 use rdf_term::{Term, Text};
 use std::alloc::Global;
 
-/// The datatype of a plain literal (RDF 1.1 Concepts, section 3.3).
-const XSD_STRING: &str = "http://www.w3.org/2001/XMLSchema#string";
-
-/// The literal of a text and a datatype.
+/// The literal of a text and a datatype. One typed as `xsd:string` is a plain one (RDF 1.1 Concepts,
+/// section 3.3).
 fn typed(text: Text, datatype: Text) -> Term
     ensures { result ≡ typed text datatype }
 {
-    if datatype.as_str() == XSD_STRING {
+    if datatype.is_xsd_string() {
         Term::Plain(text)
     } else {
         Term::Typed(text, datatype)

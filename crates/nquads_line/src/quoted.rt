@@ -1,6 +1,8 @@
 ghost use Rattle.std.specs.Prelude.{◌≡◌};
 ghost use Rattle.nquads_line.specs.Written.{closing, is_raw, is_meant};
 
+use rdf_term::{is_iri_char, is_string_char};
+
 /// What is written between two marks.
 #[derive(Clone, Copy, Debug, PartialEq, Eq)]
 pub enum Quoted {
@@ -27,7 +29,7 @@ impl Quoted {
     {
         match self {
             Quoted::Iri => is_iri_char(character),
-            Quoted::Literal => !matches!(character, '"' | '\\' | '\n' | '\r'),
+            Quoted::Literal => is_string_char(character),
         }
     }
 
@@ -40,14 +42,4 @@ impl Quoted {
             Quoted::Literal => true,
         }
     }
-}
-
-fn is_iri_char(character: char) -> bool
-    ensures { result ≡ is_raw Quoted.Iri character }
-{
-    character >= '\u{21}'
-        && !matches!(
-            character,
-            '<' | '>' | '"' | '{' | '}' | '|' | '^' | '`' | '\\'
-        )
 }

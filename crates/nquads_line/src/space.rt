@@ -1,5 +1,6 @@
 ghost use Rattle.std.specs.Prelude.{◌≡◌};
-ghost use Rattle.nquads_line.specs.Terms.{is_space};
+ghost use Rattle.std.specs.List.{list_all};
+ghost use Rattle.nquads_line.specs.Terms.{is_space, is_comment_char};
 ghost use Rattle.nquads_line.specs.Reading.{Gives, skip, mark_at, end_at};
 
 use crate::LineFault;
@@ -38,14 +39,32 @@ pub fn after(chars: &[char], mark: char) -> Result<&[char], LineFault>
     }
 }
 
+fn is_comment_char(character: char) -> bool
+    ensures { result ≡ is_comment_char character }
+{
+    character != '\r' && character != '\n'
+}
+
+/// Whether the characters hold no end of a line.
+fn is_comment_text(chars: &[char]) -> bool
+    ensures { result ≡ list_all is_comment_char chars.now }
+{
+    for character in chars {
+        if !is_comment_char(*character) {
+            return false;
+        }
+    }
+    true
+}
+
 /// That nothing is left but a comment.
 pub fn at_end(chars: &[char]) -> Result<(), LineFault>
     ensures { Gives (λ x. x) result (end_at chars.now) }
 {
     match chars {
         [] => Ok(()),
-        [first, ..] => {
-            if *first == '#' {
+        [first, comment @ ..] => {
+            if *first == '#' && is_comment_text(comment) {
                 Ok(())
             } else {
                 Err(LineFault::Bad)

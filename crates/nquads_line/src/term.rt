@@ -5,7 +5,7 @@ ghost use Rattle.rdf_term.specs.Terms.{IsResource};
 ghost use Rattle.nquads_line.specs.Grammar.{IsTerm, IsShortTerm};
 ghost use Rattle.nquads_line.specs.Reading.{Gives, resource_at, term_at, whole_term_at};
 
-use crate::characters::characters;
+use crate::characters::decode;
 use crate::iri::iri;
 use crate::label::label;
 use crate::literal::literal;
@@ -65,10 +65,11 @@ pub fn read_term(alloc: Global, text: &[u8]) -> Result<Term, TermTextFault>
     let Ok(text) = str::from_utf8(text) else {
         return Err(TermTextFault::BadTerm);
     };
-    let Ok(chars) = characters(alloc, text) else {
+    let mut characters = Vec::new(alloc);
+    if decode(text, &mut characters).is_err() {
         return Err(TermTextFault::Memory);
-    };
-    match whole_term(alloc, chars.as_slice()) {
+    }
+    match whole_term(alloc, characters.as_slice()) {
         Ok(term) => {
             if is_short_term(&term) {
                 Ok(term)

@@ -1,7 +1,7 @@
 use Rattle.std.proofs.Common.{◌++◌, ap, ◌∙◌, sym, append_assoc, encode_utf8_all}
 use Rattle.std.proofs.lemmas.Str.{encodes-append}
 use Rattle.rdf_term.specs.declared.graph.Graph.{Graph}
-use Rattle.nquads.specs.Written.{triple_parts, graph_part}
+use Rattle.nquads_line.specs.Parts.{triple_parts, graph_part}
 use Rattle.rdf_term.specs.Canonical.{canonical_line}
 use Rattle.nquads.proofs.WriteLemmas.{dot_appended, quad_line}
 use Rattle.nquads.proofs.writer.put_quad.Goals as goal

@@ -1,4 +1,4 @@
-use Rattle.nquads.specs.Written.{triple_parts}
+use Rattle.nquads_line.specs.Parts.{triple_parts}
 use Rattle.rdf_term.specs.Canonical.{canonical_triple}
 use Rattle.nquads.proofs.WriteLemmas.{dot_appended, triple_line}
 use Rattle.nquads.proofs.writer.put_triple.Goals as goal

@@ -1,6 +1,7 @@
 use Rattle.std.proofs.Common.{◌≡◌, ◌<◌, ◌^◌, IsTrue, take}
 use Rattle.std.specs.List.{list_all}
-use Rattle.nquads_line.specs.Written.{is_hex_digit, hex_value}
+use Rattle.rdf_term.specs.Classes.{is_hex_digit}
+use Rattle.nquads_line.specs.Written.{hex_value}
 use Rattle.nquads_line.proofs.escape.hex_number.Given as goal
 
 abbrev pub invariant-loop-digit : goal.invariant-loop-digit

@@ -57,9 +57,25 @@ returns-in_err-append_line-2-clause-refused c =
     let r : Reader = record { kind = s.kind; line = s.line.items; after_cr = s.after_cr; ended = s.ended; fault = s.fault } in
     let number : c.saturating_add-number.result ≡ line_number r.ended = grind (arith, common_steps) in
     let line = c.args.line.now in
-    let whole : c.as_slice.result.now ≡ r.line ++ line = grind (arith, common_steps) in
-    let refused = refused_at r.kind c.as_slice.result.now (r.line ++ line) c.saturating_add-number.result (line_number r.ended) c.in_err-append_line-2.field-0.0 whole number
+    let whole : c.as_slice-whole.result.now ≡ r.line ++ line = grind (arith, common_steps) in
+    let refused = refused_at r.kind c.as_slice-whole.result.now (r.line ++ line) c.saturating_add-number.result (line_number r.ended) c.in_err-append_line-2.field-0.0 whole number
     c.in_err-append_line-2.ensures.refused in
     passed_on c.from_residual-in_err-append_line-2.result (λ (fault : DataFault). UnlessMemory fault (IsRefused c.args.self.now.kind (c.args.self.now.line ++ line) (line_number c.args.self.now.ended) fault))
     c.in_err-append_line-2.field-0.0 c.from_residual-in_err-append_line-2.ensures.1
     (subst (λ (v : Reader). UnlessMemory c.in_err-append_line-2.field-0.0 (IsRefused v.kind (v.line ++ line) (line_number v.ended) c.in_err-append_line-2.field-0.0)) c.self.view_is refused)
+
+pub returns-clause-ok : goal.returns-clause-ok
+returns-clause-ok c =
+    let s = c.self.inside in
+    let r : Reader = record { kind = s.kind; line = s.line.items; after_cr = s.after_cr; ended = s.ended; fault = s.fault } in
+    let r' : Reader = record r { line = c.clear.new.self.items; ended = c.saturating_add-number.result } in
+    let p = c.in_ok-append_line-2.ensures.ok in
+    let line = c.args.line.now in
+    let out = c.args.out.now in
+    let out' = c.append_line-2.new.out in
+    let whole : c.as_slice-whole.result.now ≡ r.line ++ line = grind (arith, common_steps) in
+    let number : c.saturating_add-number.result ≡ line_number r.ended = grind (arith, common_steps) in
+    let nil : c.clear.new.self.items ≡ [] = c.clear.ensures.items in
+    subst (λ (v : Reader). (x : Option Statement) × IsLine v.kind (v.line ++ line) x × IsShortQuad x × (out' ≡ out ++ option_to_list x)
+    × (r' ≡ record v { line = []; ended = line_number v.ended })) c.self.view_is
+    (p.0, subst (λ (v : List ℕ). IsLine r.kind v p.0) whole p.1, p.2, p.3, λ i. record r { line = nil i; ended = number i })

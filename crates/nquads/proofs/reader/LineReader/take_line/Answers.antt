@@ -1,7 +1,7 @@
 use Rattle.std.proofs.Common.{◌≡◌, ◌++◌, [], ◌∷◌, refl, ap, ◌∙◌, sym, subst, ◌==◌, ◌&&◌, true, false, length}
 use Rattle.std.proofs.lemmas.Result.{on_ok_weaker}
 use Rattle.nquads.specs.State.{Reader, Stands, Feeds, FailsAt}
-use Rattle.nquads.proofs.FeedLemmas.{feeds_skip, feeds_end, fails_end, both_err, unless}
+use Rattle.nquads.proofs.FeedLemmas.{feeds_skip, feeds_end, fails_end, both_err, unless, valid_none}
 use Rattle.nquads.proofs.reader.LineReader.take_line.Goals as goal
 
 pub returns-then-skips-clause-ok : goal.returns-then-skips-clause-ok
@@ -36,3 +36,6 @@ returns-clause-refused c =
     (λ l. λ kind taken. subst (λ v. Stands v kind taken → FailsAt kind taken (c.args.line.now ++ c.args.end ∷ []) fault c.args.out.now c.end_line.new.out) c.self.view_is
     (λ s. fails_end kind taken c.args.line.now c.args.end fault r c.args.out.now c.end_line.new.out s c.requires.line c.requires.end skips l same)) h)
     c.end_line.ensures.refused c.end_line.ensures.unchanged
+
+pub returns-then-skips-clause-valid : goal.returns-then-skips-clause-valid
+returns-then-skips-clause-valid c = valid_none c.args.out.now c.args.out.now refl

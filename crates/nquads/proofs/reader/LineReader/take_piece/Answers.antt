@@ -1,7 +1,7 @@
 use Rattle.std.proofs.Common.{◌≡◌, ◌++◌, [], ◌∷◌, refl, ap, ◌∙◌, sym, subst, append_assoc}
 use Rattle.std.proofs.lemmas.Result.{on_ok_weaker}
 use Rattle.nquads.specs.State.{Feeds, FailsAt, Stops}
-use Rattle.nquads.proofs.FeedLemmas.{feeds_keep, feeds_more, fails_more, stops_more, always_err, unless}
+use Rattle.nquads.proofs.FeedLemmas.{feeds_none, feeds_keep, feeds_more, fails_more, stops_more, always_err, unless, valid_none, valid_more}
 use Rattle.nquads.proofs.reader.LineReader.take_piece.Goals as goal
 
 pub returns-in-Err-clause-refused : goal.returns-in-Err-clause-refused
@@ -37,6 +37,7 @@ loop-line-preserved c =
       λ kind taken s. let f = i.2 kind taken s in
           feeds_more kind taken i.0 part c.loop-line.self c.take_line.new.self c.args.out.now c.loop-line.out c.take_line.new.out f
           (c.in_default-take_line.ensures.ok kind (taken ++ i.0) f.stands),
+      valid_more c.args.out.now c.loop-line.out c.take_line.new.out i.3 c.take_line.ensures.valid,
     )
 
 pub returns-clause-ok : goal.returns-clause-ok
@@ -54,3 +55,14 @@ returns-clause-prefix c =
     always_err c.keep.result (λ kind taken s.
     subst (λ v. Stops kind taken v c.args.out.now c.loop-line.out) i.1
     (stops_more kind taken i.0 c.loop-line.rest.now c.loop-line.self c.args.out.now c.loop-line.out c.loop-line.out (i.2 kind taken s) refl))
+
+pub returns-in-Err-clause-valid : goal.returns-in-Err-clause-valid
+returns-in-Err-clause-valid c =
+    valid_more c.args.out.now c.loop-line.out c.take_line.new.out c.loop-line.invariant.3 c.take_line.ensures.valid
+
+pub returns-clause-valid : goal.returns-clause-valid
+returns-clause-valid c = c.loop-line.invariant.3
+
+pub loop-line-init : goal.loop-line-init
+loop-line-init c =
+    ([], refl, λ kind taken s. feeds_none kind taken c.args.self.now c.args.out.now s, valid_none c.args.out.now c.args.out.now refl)

@@ -1,0 +1,6 @@
+use Rattle.std.proofs.Common.{rules}
+use Rattle.nquads_line.proofs.FaultLemmas.{same_term_faults}
+use Rattle.nquads_line.proofs.fault.TermTextFaultPartialEq.eq.Goals as goal
+
+pub returns-clause-same : goal.returns-clause-same
+returns-clause-same c = same_term_faults _ _ _ (search rules)
