@@ -1,14 +1,17 @@
 -- Sets of keys under a map, and what a filter leaves of them.
-use Rattle.std.proofs.Common.{◌≡◌, Bool, true, false, ◌||◌, ◌&&◌, not, cond, List, [], ◌∷◌, map, refl, sym, ap, ◌∙◌}
-use Rattle.std.specs.List.{filter, list_any, AllByRecursion}
-use Rattle.std.specs.List.Sorted.{IsStrictlySortedBy}
-use Rattle.std.specs.Ordering.{eq_by_cmp, is_eq, match_ordering, ordering_reverse}
+use Rattle.std.proofs.Common.{◌≡◌, ℕ, zero, suc, ◌+◌, ◌<◌, ◌≤◌, ◌⊎◌, inl, inr, arith, length, get_or, false, List, [], ◌∷◌, ◌++◌, map, take, refl, sym, ap, subst, ◌∙◌}
+use Rattle.std.specs.List.{list_any, All, AllByRecursion}
+use Rattle.std.specs.List.Sorted.{IsStrictlySortedBy, IsSorted, IsNonDecreasingBy, IsPartitionPoint}
+use Rattle.std.specs.Ordering.{eq_by_cmp, is_eq, is_lt, match_ordering, ordering_index, ordering_reverse}
 use Rattle.std.specs.Cmp.{IsTotalOrder}
-use Rattle.std.specs.Set.{remove_key}
 use Rattle.std.specs.BTreeSet.{insert_key}
 use Rattle.std.specs.declared.cmp.Ordering.{Ordering}
 use Rattle.std.specs.declared.cmp.Ordering.TheVariants.{Less, Equal, Greater}
-use Rattle.std.proofs.lemmas.Map.Lookups.{CmpEqualImpliesEq}
+use Rattle.std.proofs.lemmas.Bool.{cases_lt}
+use Rattle.std.proofs.lemmas.List.{take_more, map-append}
+use Rattle.std.proofs.lemmas.List.Elements.{All-push}
+use Rattle.std.proofs.lemmas.List.Folds.{list_any_none}
+use Rattle.std.proofs.lemmas.List.Sorted.{searchable_from_sorted}
 
 pub map-insert_key : {K L : Type 0} (f : K → L) (R : L → L → Ordering) (xs : List K) (k : K)
     → insert_key R (map f xs) (f k) ≡ map f (insert_key (λ x y. R (f x) (f y)) xs k)
@@ -21,16 +24,6 @@ map-insert_key f R (x ∷ xs) k = at (map-insert_key f R xs k) (R (f k) (f x))
     at rest Equal = refl
     at rest Greater = ap (λ ys. f x ∷ ys) rest
 
-pub map-remove_key : {K L : Type 0} (f : K → L) (test : L → Bool) (xs : List K)
-    → remove_key test (map f xs) ≡ map f (remove_key (λ x. test (f x)) xs)
-map-remove_key f test [] = refl
-map-remove_key f test (x ∷ xs) = at (map-remove_key f test xs) (test (f x))
-  where
-    at : remove_key test (map f xs) ≡ map f (remove_key (λ x. test (f x)) xs) → (b : Bool)
-        → cond b (map f xs) (f x ∷ remove_key test (map f xs)) ≡ map f (cond b xs (x ∷ remove_key (λ x. test (f x)) xs))
-    at rest true = refl
-    at rest false = ap (λ ys. f x ∷ ys) rest
-
 all-map : {K L : Type 0} (f : K → L) (P : L → Type 0) (xs : List K) → AllByRecursion (λ x. P (f x)) xs → AllByRecursion P (map f xs)
 all-map f P [] a = tt
 all-map f P (x ∷ xs) a = (a.0, all-map f P xs a.1)
@@ -41,52 +34,42 @@ unfolding IsStrictlySortedBy
 sorted-map f R [] s = tt
 sorted-map f R (x ∷ xs) s = (all-map f (λ y. R (f x) y ≡ Less) xs s.0, sorted-map f R xs s.1)
 
-module _ {K : Type 0} {R : K → K → Ordering} (o : IsTotalOrder R) (exact : CmpEqualImpliesEq R) where
-  -- what is above an element stays where that element is left out
-  all_kept : (x : K) (xs : List K) → AllByRecursion (λ y. R x y ≡ Less) xs → filter (λ q. not (is_eq (R q x))) xs ≡ xs
-  all_kept x [] a = refl
-  all_kept x (y ∷ ys) a = (λ i. cond (not (is_eq (above i))) (y ∷ filter (λ q. not (is_eq (R q x))) ys) (filter (λ q. not (is_eq (R q x))) ys)) ∙ ap (λ zs. y ∷ zs) (all_kept x ys a.1)
+-- ---- a search by halves
+
+pub all_at : {X : Type 0} (P : X → Type 0) (xs : List X) (i : ℕ) (d : X) → AllByRecursion P xs → i < length xs → P (get_or xs i d)
+all_at P [] i d a l = absurd (omega arith)
+all_at P (x ∷ xs) zero d a l = a.0
+all_at P (x ∷ xs) (suc i) d a l = all_at P xs i d a.1 (omega arith)
+
+pub rises_at : {K : Type 0} (R : K → K → Ordering) (xs : List K) (i j : ℕ) (d : K) → IsStrictlySortedBy R xs → i < j → j < length xs → R (get_or xs i d) (get_or xs j d) ≡ Less
+unfolding IsStrictlySortedBy
+rises_at R [] i j d s l b = absurd (omega arith)
+rises_at R (x ∷ xs) i zero d s l b = absurd (omega arith)
+rises_at R (x ∷ xs) zero (suc j) d s l b = all_at (λ y. R x y ≡ Less) xs j d s.0 (omega arith)
+rises_at R (x ∷ xs) (suc i) (suc j) d s l b = rises_at R xs i j d s.1 (omega arith) (omega arith)
+
+module _ {K : Type 0} {R : K → K → Ordering} (o : IsTotalOrder R) where
+  pub sorted : (xs : List K) → IsStrictlySortedBy R xs → IsSorted R xs
+  sorted xs s = λ k d low high. ap is_lt (o.antisymm (get_or xs (k + 1) d) (get_or xs k d) ∙ ap ordering_reverse (rises_at R xs k (k + 1) d s (omega arith) high))
+
+  -- what a search by halves doesn't find isn't there
+  pub absent : (xs : List K) (x : K) (i : ℕ) → IsStrictlySortedBy R xs
+      → (IsNonDecreasingBy (λ y. ordering_index (R y x)) xs → IsPartitionPoint (λ y. R y x ≡ Less) (λ y. R y x ≡ Greater) xs i)
+      → list_any (eq_by_cmp R x) xs ≡ false
+  absent xs x i s h = list_any_none (eq_by_cmp R x) xs (λ k d b. at k d b (cases_lt k i))
     where
-      above : R y x ≡ Greater
-      above = o.antisymm y x ∙ ap ordering_reverse a.0
+      found : IsPartitionPoint (λ y. R y x ≡ Less) (λ y. R y x ≡ Greater) xs i
+      found = h (searchable_from_sorted o (λ y. y) xs x (sorted xs s))
 
-  -- what is removed from a strictly ascending list is filtered out of it
-  pub remove_key-filter : (k : K) (xs : List K) → IsStrictlySortedBy R xs
-      → remove_key (λ x. is_eq (R k x)) xs ≡ filter (λ q. not (eq_by_cmp R q k)) xs
-  unfolding IsStrictlySortedBy
-  remove_key-filter k [] s = refl
-  remove_key-filter k (x ∷ xs) s = at (remove_key-filter k xs s.1) (R k x) refl
-    where
-      at : remove_key (λ x. is_eq (R k x)) xs ≡ filter (λ q. not (eq_by_cmp R q k)) xs → (r : Ordering) → R k x ≡ r
-          → cond (is_eq r) xs (x ∷ remove_key (λ x. is_eq (R k x)) xs) ≡ cond (not (is_eq (R x k))) (x ∷ filter (λ q. not (is_eq (R q k))) xs) (filter (λ q. not (is_eq (R q k))) xs)
-      at rest Less e = ap (λ ys. x ∷ ys) rest ∙ (λ i. cond (not (is_eq (sym (o.antisymm x k ∙ ap ordering_reverse e) i))) (x ∷ filter (λ q. not (is_eq (R q k))) xs) (filter (λ q. not (is_eq (R q k))) xs))
-      at rest Equal e = sym (all_kept x xs s.0) ∙ ap (λ z. filter (λ q. not (is_eq (R q z))) xs) (sym (exact k x e))
-          ∙ (λ i. cond (not (is_eq (sym (o.antisymm x k ∙ ap ordering_reverse e) i))) (x ∷ filter (λ q. not (is_eq (R q k))) xs) (filter (λ q. not (is_eq (R q k))) xs))
-      at rest Greater e = ap (λ ys. x ∷ ys) rest ∙ (λ i. cond (not (is_eq (sym (o.antisymm x k ∙ ap ordering_reverse e) i))) (x ∷ filter (λ q. not (is_eq (R q k))) xs) (filter (λ q. not (is_eq (R q k))) xs))
+      at : (k : ℕ) (d : K) → k < length xs → (k < i) ⊎ (i ≤ k) → eq_by_cmp R x (get_or xs k d) ≡ false
+      at k d b (inl l) = ap is_eq (o.antisymm x (get_or xs k d) ∙ ap ordering_reverse (found.0 k d (omega arith) l))
+      at k d b (inr l) = ap is_eq (o.antisymm x (get_or xs k d) ∙ ap ordering_reverse (found.1 k d l b))
 
--- an element is in a filtered list where it is in the list and passes
-pub has-filter : {K : Type 0} {R : K → K → Ordering} → CmpEqualImpliesEq R → (m : K → Bool) (xs : List K) (q : K)
-    → list_any (eq_by_cmp R q) (filter m xs) ≡ (m q && list_any (eq_by_cmp R q) xs)
-has-filter exact m [] q = and_false (m q)
-  where
-    and_false : (b : Bool) → false ≡ (b && false)
-    and_false true = refl
-    and_false false = refl
-has-filter {R} exact m (x ∷ xs) q = at (has-filter exact m xs q) (m x) refl (R q x) refl
-  where
-    gone : (b c : Bool) → b ≡ false → (b && c) ≡ (b && (true || c))
-    gone true c e = cc
-    gone false c e = refl
+-- ---- an item more
 
-    there : (b c : Bool) → b ≡ true → true ≡ (b && (true || c))
-    there true c e = refl
-    there false c e = cc
+pub each_more : {X : Type 0} (P : X → Type 0) (xs : List X) (x : X) (ys : List X) → ys ≡ xs ++ x ∷ [] → All P xs → P x → All P ys
+each_more P xs x ys e a p = subst (All P) (sym e) (All-push P xs x a p)
 
-    at : list_any (eq_by_cmp R q) (filter m xs) ≡ (m q && list_any (eq_by_cmp R q) xs) → (b : Bool) → m x ≡ b → (r : Ordering) → R q x ≡ r
-        → list_any (eq_by_cmp R q) (cond b (x ∷ filter m xs) (filter m xs)) ≡ (m q && (is_eq r || list_any (eq_by_cmp R q) xs))
-    at rest true e Less d = ap (λ z. is_eq z || list_any (eq_by_cmp R q) (filter m xs)) d ∙ rest
-    at rest true e Greater d = ap (λ z. is_eq z || list_any (eq_by_cmp R q) (filter m xs)) d ∙ rest
-    at rest true e Equal d = ap (λ z. is_eq z || list_any (eq_by_cmp R q) (filter m xs)) d ∙ there (m q) (list_any (eq_by_cmp R q) xs) (ap m (exact q x d) ∙ e)
-    at rest false e Less d = rest
-    at rest false e Greater d = rest
-    at rest false e Equal d = rest ∙ gone (m q) (list_any (eq_by_cmp R q) xs) (ap m (exact q x d) ∙ e)
+pub mapped_more : {X Y : Type 0} (f : X → Y) (xs : List X) (x : X) (ys : List X) (made : List Y) (i : ℕ) (y : Y) → ys ≡ xs ++ x ∷ [] → i < length made → y ≡ get_or made i y → f x ≡ y
+    → map f xs ≡ take i made → map f ys ≡ take (i + 1) made
+mapped_more f xs x ys made i y e l is g h = ap (map f) e ∙ map-append f xs (x ∷ []) ∙ (λ j. h j ++ (g ∙ is) j ∷ []) ∙ sym (take_more made i y l)

@@ -1,55 +1,45 @@
--- What contracts see of an index, and of the sets that it is made of.
-use Rattle.std.specs.Prelude.{◌≡◌, ℕ, ◌<◌, ◌≤◌, Bool, false, ◌||◌, ◌&&◌, not, List, length, slice_index_or}
-use Rattle.std.specs.List.{list_any}
+-- What contracts see of an index, and of the runs that it is made of.
+use Rattle.std.specs.Prelude.{◌≡◌, ℕ, ◌<◌, ◌≤◌, Bool, false, List, length, slice_index_or}
+use Rattle.std.specs.List.{list_any, All, AllByRecursion}
 use Rattle.std.specs.List.Sorted.{IsStrictlySortedBy}
-use Rattle.std.specs.Ordering.{eq_by_cmp, is_eq}
+use Rattle.std.specs.Ordering.{eq_by_cmp}
 use Rattle.rdf_term.specs.declared.pattern.Pattern.{Pattern}
+use Rattle.rdf_term.specs.declared.term.Term.{Term}
 use Rattle.rdf_term.specs.Statement.{Statement}
-use Rattle.rdf_term.specs.Order.{quad_cmp}
+use Rattle.rdf_term.specs.Order.{quad_cmp, term_cmp}
 use Rattle.quad_index.specs.declared.letter.Letter.{Letter}
-use Rattle.quad_index.specs.Letters.{run}
+use Rattle.quad_index.specs.declared.code.Code.{Code}
+use Rattle.quad_index.specs.Letters.{run, is_term_order}
+use Rattle.quad_index.specs.Codes.{code_cmp, IsCode, HasSame}
 
 -- an index: the set of its quads, strictly ascending, and its orders
 pub record Contents : Type 0 where
   pub quads : List Statement
   pub orders : List (List Letter)
 
--- a set of quads in one order
+-- a run: codes, sorted by their numbers in an order
 pub record Arranged : Type 0 where
   pub order : List Letter
-  pub quads : List Statement
+  pub codes : List Code
 
 -- whether a quad is among these
 abbrev pub is_in : Statement → List Statement → Bool
 is_in q quads = list_any (eq_by_cmp quad_cmp q) quads
 
--- how the sets before a step stand to those behind it, each at its place
-abbrev pub EachSet : (Arranged → Arranged → Type 0) → List Arranged → List Arranged → Type 0
-EachSet R olds news = (k : ℕ) (none : Arranged) → k < length olds → R (slice_index_or olds k none) (slice_index_or news k none)
+-- the place of the run whose order fits a pattern best, the first of those that fit as well
+pub record IsBest (p : Pattern) (runs : List Arranged) (best : ℕ) : Type 0 where
+  pub within : best < length runs
+  pub longest : (k : ℕ) (none : Arranged) → k < length runs → run p (slice_index_or runs k none).order ≤ run p (slice_index_or runs best none).order
+  pub earliest : (k : ℕ) (none : Arranged) → k < best → run p (slice_index_or runs k none).order < run p (slice_index_or runs best none).order
 
--- the quad was added
-pub record Adds (quad : Statement) (old new : Arranged) : Type 0 where
-  pub order : new.order ≡ old.order
-  pub quads : (q : Statement) → is_in q new.quads ≡ (is_eq (quad_cmp q quad) || is_in q old.quads)
+-- a run has these codes, unless its order is that of quads themselves: the list of codes serves in its place
+pub record IsKept (codes : List Code) (run : Arranged) : Type 0 where
+  pub same : is_term_order run.order ≡ false → HasSame codes run.codes
 
--- the quad was added or not
-pub record MayAdd (quad : Statement) (old new : Arranged) : Type 0 where
-  pub order : new.order ≡ old.order
-  pub others : (q : Statement) → is_eq (quad_cmp q quad) ≡ false → is_in q new.quads ≡ is_in q old.quads
-
--- the quad was removed, where it was there
-pub record Drops (quad : Statement) (old new : Arranged) : Type 0 where
-  pub order : new.order ≡ old.order
-  pub quads : (q : Statement) → is_in q new.quads ≡ (is_in q old.quads && not (is_eq (quad_cmp q quad)))
-
--- the place of the set whose order fits a pattern best, the first of those that fit as well
-pub record IsBest (p : Pattern) (sets : List Arranged) (best : ℕ) : Type 0 where
-  pub within : best < length sets
-  pub longest : (k : ℕ) (none : Arranged) → k < length sets → run p (slice_index_or sets k none).order ≤ run p (slice_index_or sets best none).order
-  pub earliest : (k : ℕ) (none : Arranged) → k < best → run p (slice_index_or sets k none).order < run p (slice_index_or sets best none).order
-
--- there is a set, and each set has the quads of the strictly ascending list
-pub record IsWhole (quads : List Statement) (sets : List Arranged) : Type 0 where
-  pub some : 0 < length sets
-  pub ascending : IsStrictlySortedBy quad_cmp quads
-  pub same : (k : ℕ) (none : Arranged) → k < length sets → (q : Statement) → is_in q (slice_index_or sets k none).quads ≡ is_in q quads
+-- there is a run, each run has the codes of the strictly ascending list, and these are quads'
+pub record IsWhole (terms : List Term) (codes : List Code) (runs : List Arranged) : Type 0 where
+  pub some : 0 < length runs
+  pub dictionary : IsStrictlySortedBy term_cmp terms
+  pub ascending : IsStrictlySortedBy code_cmp codes
+  pub quads : AllByRecursion (IsCode terms) codes
+  pub same : All (λ run. IsKept codes run) runs

@@ -1,4 +1,4 @@
-ghost use Rattle.std.specs.Prelude.{◌≡◌, ◌≤◌, ◌<◌, not, length, is_some, IfOk, IfSome, OnOk, OnErr};
+ghost use Rattle.std.specs.Prelude.{◌≡◌, ◌≤◌, not, length, IfOk, OnOk, OnErr};
 ghost use Rattle.std.specs.List.{filter};
 ghost use Rattle.std.specs.List.Sorted.{IsStrictlySortedBy};
 ghost use Rattle.std.specs.BTreeSet.{insert_key};
@@ -6,86 +6,60 @@ ghost use Rattle.std.specs.Ordering.{eq_by_cmp};
 ghost use Rattle.rdf_term.specs.Matching.{matches};
 ghost use Rattle.rdf_term.specs.Order.{quad_cmp};
 ghost use Rattle.rdf_term.specs.Sets.{in_order};
-ghost use Rattle.quad_index.specs.Contents.{is_in, EachSet, Adds, Drops};
+ghost use Rattle.quad_index.specs.Contents.{is_in};
 ghost use Rattle.quad_index.specs.Letters.{IsChosen};
 
-use crate::ordered::Ordered;
-use crate::terms::InTermOrder;
-use crate::{Order, Orders, sets};
+use crate::code::{self, Code};
+use crate::dictionary::Dictionary;
+use crate::run::{self, Run};
+use crate::{Order, Orders, runs};
 use rdf_term::{Duplicate, Memory, Pattern, Quad, Quads, Scan};
 use std::alloc::Global;
 use std::marker::Model;
-use std::sync::Arc;
 
 /// A set of quads that is kept in term order and in one to six orders more. Contracts see it as the
 /// strictly ascending list of its quads and the list of its orders.
 ///
-/// Each quad is stored once, and all its orders share it.
+/// Each term is stored once, and a quad is four numbers in each order.
 #[derive(Drop)]
 pub struct Index {
     alloc: Global,
-    terms: InTermOrder,
-    sets: Vec<Ordered>,
+    terms: Dictionary,
+    codes: Vec<Code>,
+    runs: Vec<Run>,
 }
 
 impl Model for Index {
     ghost use Rattle.std.specs.Prelude.{map};
+    ghost use Rattle.quad_index.specs.Codes.{decode};
     ghost use Rattle.quad_index.specs.Contents.{Contents, IsWhole};
 
     ghost Value = { Contents };
 
-    ghost view = { λ index. record { quads = index.terms; orders = map (λ set. set.order) index.sets.items } };
+    ghost view = { λ index. record { quads = map (decode index.terms) index.codes.items; orders = map (λ run. run.order) index.runs.items } };
 
-    ghost invariant = { λ index. IsWhole index.terms index.sets.items };
-}
-
-/// Adds a quad that the other sets have. Without memory it is removed from these.
-fn add_to_terms(
-    terms: &mut InTermOrder,
-    sets: &mut [Ordered],
-    quad: Arc<Quad>,
-    spare: Arc<Quad>,
-) -> Result<(), Memory>
-    requires { spare.value ≡ quad.value }
-    ensures terms { OnOk result (terms.new ≡ insert_key quad_cmp terms.old quad.value) }
-    ensures sets { OnOk result (sets.new ≡ sets.old) }
-    ensures same_terms { OnErr result (terms.new ≡ terms.old) }
-    ensures same_sets { OnErr result (EachSet (Drops quad.value) sets.old sets.new) }
-    ensures ascending { IsStrictlySortedBy quad_cmp terms.new }
-{
-    match terms.insert(quad) {
-        Ok(()) => Ok(()),
-        Err(memory) => {
-            sets::remove(sets, spare);
-            Err(memory)
-        }
-    }
-}
-
-/// Adds a quad to all sets of an index. Without memory none has it.
-fn add(
-    terms: &mut InTermOrder,
-    sets: &mut [Ordered],
-    quad: Arc<Quad>,
-    spare: Arc<Quad>,
-) -> Result<(), Memory>
-    requires { spare.value ≡ quad.value }
-    ensures terms { OnOk result (terms.new ≡ insert_key quad_cmp terms.old quad.value) }
-    ensures sets { OnOk result (EachSet (Adds quad.value) sets.old sets.new) }
-    ensures same_terms { OnErr result (terms.new ≡ terms.old) }
-    ensures same_sets { OnErr result (EachSet (Drops quad.value) sets.old sets.new) }
-    ensures ascending { OnOk result (IsStrictlySortedBy quad_cmp terms.new) }
-{
-    match sets::add(sets, &quad) {
-        Ok(()) => add_to_terms(terms, sets, quad, spare),
-        Err(memory) => {
-            sets::remove(sets, spare);
-            Err(memory)
-        }
-    }
+    ghost invariant = { λ index. IsWhole index.terms index.codes.items index.runs.items };
 }
 
 impl Index {
+    /// The set of these quads, kept in these orders.
+    fn made(alloc: Global, orders: &[Order], quads: &[Quad]) -> Result<Index, Memory>
+        requires { 1 ≤ length orders.now }
+        ensures quads { IfOk result (λ index. index.quads ≡ in_order quads.now) }
+        ensures orders { IfOk result (λ index. index.orders ≡ orders.now) }
+    {
+        let terms = Dictionary::of(alloc, quads)?;
+        let codes = terms.codes_of(alloc, quads)?;
+        let codes = code::set_of(codes);
+        let runs = runs::build(alloc, orders, codes.as_slice())?;
+        Ok(Index {
+            alloc,
+            terms,
+            codes,
+            runs,
+        })
+    }
+
     /// The set of these quads, kept in these orders, one to six.
     pub fn build(alloc: Global, orders: &Orders, quads: &Quads) -> Result<Index, Memory>
         requires some { 1 ≤ length orders.now }
@@ -93,14 +67,7 @@ impl Index {
         ensures quads { IfOk result (λ index. index.quads ≡ in_order quads.now) }
         ensures orders { IfOk result (λ index. index.orders ≡ orders.now) }
     {
-        let mut index = Index {
-            alloc,
-            terms: InTermOrder::new(alloc),
-            sets: sets::empty(alloc, orders.as_slice())?,
-        };
-        for quad in quads.as_slice() {
-            index.insert(quad)?;
-        }
+        let index = Index::made(alloc, orders.as_slice(), quads.as_slice())?;
         Ok(index)
     }
 
@@ -109,24 +76,48 @@ impl Index {
         ensures quads { IfOk result (λ index. index.quads ≡ in_order quads.now) }
         ensures orders { IfOk result (λ index. index.orders ≡ self.now.orders) }
     {
-        let orders = sets::orders(alloc, self.sets.as_slice())?;
-        let mut index = Index {
-            alloc,
-            terms: InTermOrder::new(alloc),
-            sets: sets::empty(alloc, orders.as_slice())?,
-        };
-        for quad in quads.as_slice() {
-            index.insert(quad)?;
-        }
+        let orders = runs::orders(alloc, self.runs.as_slice())?;
+        let index = Index::made(alloc, orders.as_slice(), quads.as_slice())?;
         Ok(index)
     }
 
-    /// The quad as it is kept, where it is in the set.
-    fn find(&self, quad: &Quad) -> Option<&Arc<Quad>>
-        ensures found { is_some result ≡ is_in quad.now self.now.quads }
-        ensures quad { IfSome result (λ kept. kept.now.value ≡ quad.now) }
+    /// All quads.
+    fn all(&self, alloc: Global) -> Result<Quads, Memory>
+        ensures { IfOk result (λ quads. quads ≡ self.now.quads) }
     {
-        self.sets[0].find(quad)
+        let quads = self.terms.quads(alloc, self.codes.as_slice())?;
+        Ok(quads)
+    }
+
+    /// Whether a quad is in the set.
+    fn holds(&self, quad: &Quad) -> bool
+        ensures found { result ≡ is_in quad.now self.now.quads }
+        ensures ascending { IsStrictlySortedBy quad_cmp self.now.quads }
+    {
+        let _codes = &self.codes;
+        let Some(code) = self.terms.code_of(quad) else {
+            return false;
+        };
+        match self.codes.as_slice().binary_search(&code) {
+            Ok(_) => true,
+            Err(_) => false,
+        }
+    }
+
+    /// Adds a quad that is not there and has a term that no quad has. Without memory the set stays as
+    /// it was.
+    fn add_with_terms(&mut self, quad: &Quad) -> Result<(), Memory>
+        requires { IsStrictlySortedBy quad_cmp self.old.quads }
+        ensures quads { OnOk result (self.new.quads ≡ insert_key quad_cmp self.old.quads quad.now) }
+        ensures memory { OnErr result (self.new.quads ≡ self.old.quads) }
+        ensures orders { self.new.orders ≡ self.old.orders }
+    {
+        let alloc = self.alloc;
+        let mut quads = self.all(alloc)?;
+        quads.push(quad.copy(alloc)?)?;
+        let index = self.with_quads(alloc, &quads)?;
+        *self = index;
+        Ok(())
     }
 
     /// Adds a quad, and answers whether the set changed. Without memory it stays as it was.
@@ -136,12 +127,18 @@ impl Index {
         ensures memory { OnErr result (self.new.quads ≡ self.old.quads) }
         ensures orders { self.new.orders ≡ self.old.orders }
     {
-        if self.find(quad).is_some() {
+        if self.holds(quad) {
             return Ok(false);
         }
-        let kept = Arc::new(self.alloc, quad.copy(self.alloc)?)?;
-        let spare = Arc::try_clone(&kept)?;
-        add(&mut self.terms, self.sets.as_mut_slice(), kept, spare)?;
+        let Some(code) = self.terms.code_of(quad) else {
+            self.add_with_terms(quad)?;
+            return Ok(true);
+        };
+        let alloc = self.alloc;
+        let codes = code::with(alloc, self.codes.as_slice(), code)?;
+        let runs = runs::of_codes(alloc, self.runs.as_slice(), codes.as_slice())?;
+        self.codes = codes;
+        self.runs = runs;
         Ok(true)
     }
 
@@ -152,12 +149,17 @@ impl Index {
         ensures memory { OnErr result (self.new.quads ≡ self.old.quads) }
         ensures orders { self.new.orders ≡ self.old.orders }
     {
-        let Some(found) = self.find(quad) else {
+        let Some(code) = self.terms.code_of(quad) else {
             return Ok(false);
         };
-        let kept = Arc::try_clone(found)?;
-        let kept = sets::remove(self.sets.as_mut_slice(), kept);
-        self.terms.remove(&kept);
+        if !self.holds(quad) {
+            return Ok(false);
+        }
+        let alloc = self.alloc;
+        let codes = code::without(alloc, self.codes.as_slice(), &code)?;
+        let runs = runs::of_codes(alloc, self.runs.as_slice(), codes.as_slice())?;
+        self.codes = codes;
+        self.runs = runs;
         Ok(true)
     }
 
@@ -166,27 +168,15 @@ impl Index {
     pub fn choose(&self, pattern: &Pattern) -> Order
         ensures { IsChosen pattern.now self.now.orders result }
     {
-        let best = sets::best(self.sets.as_slice(), pattern);
-        self.sets[best].order()
+        let best = runs::best(self.runs.as_slice(), pattern);
+        self.runs[best].order()
     }
 
     /// Whether a quad is in the set. It takes no memory.
     pub fn has(&self, quad: &Quad) -> bool
         ensures { result ≡ is_in quad.now self.now.quads }
     {
-        self.find(quad).is_some()
-    }
-
-    /// Copies of the quads that match the pattern, in the order that fits it best, or in term order
-    /// where the pattern gives the first part of none.
-    fn matching(&self, alloc: Global, pattern: &Pattern) -> Result<Quads, Memory>
-        ensures { IfOk result (λ found. in_order found ≡ filter (matches pattern.now) self.now.quads) }
-    {
-        let set = &self.sets[sets::best(self.sets.as_slice(), pattern)];
-        if set.order().run(pattern) == 0 {
-            return self.terms.matching(alloc, pattern);
-        }
-        set.matching(alloc, pattern)
+        self.holds(quad)
     }
 
     /// The number of quads.
@@ -194,8 +184,36 @@ impl Index {
         ensures len { result ≡ length self.now.quads }
         ensures ascending { IsStrictlySortedBy quad_cmp self.now.quads }
     {
-        let _sets = &self.sets;
-        self.terms.len() as u64
+        let _runs = &self.runs;
+        self.codes.len() as u64
+    }
+
+    /// The number of quads that match the pattern. It takes no memory.
+    pub fn count(&self, pattern: &Pattern) -> u64
+        ensures { result ≡ length (filter (matches pattern.now) self.now.quads) }
+    {
+        let _codes = &self.codes;
+        let Some((low, high)) = self.terms.bounds(pattern) else {
+            return 0;
+        };
+        let (order, keys) = runs::serving(self.codes.as_slice(), self.runs.as_slice(), pattern);
+        run::count(&order, keys, &low, &high) as u64
+    }
+
+    /// The quads that match the pattern, found by the order that fits it best.
+    fn matching(&self, alloc: Global, pattern: &Pattern) -> Result<Quads, Memory>
+        ensures value { IfOk result (λ quads. quads ≡ filter (matches pattern.now) self.now.quads) }
+        ensures ascending { IfOk result (λ quads. IsStrictlySortedBy quad_cmp quads) }
+    {
+        let _codes = &self.codes;
+        let Some((low, high)) = self.terms.bounds(pattern) else {
+            return Ok(Quads::new(alloc));
+        };
+        let (order, keys) = runs::serving(self.codes.as_slice(), self.runs.as_slice(), pattern);
+        let found = run::matching(alloc, &order, keys, &low, &high)?;
+        let found = code::set_of(found);
+        let quads = self.terms.quads(alloc, found.as_slice())?;
+        Ok(quads)
     }
 }
 
@@ -203,6 +221,6 @@ impl Scan for Index {
     ghost content = { λ index. index.quads };
 
     fn scan(&self, alloc: Global, pattern: &Pattern) -> Result<Quads, Memory> {
-        self.matching(alloc, pattern)?.into_set()
+        self.matching(alloc, pattern)
     }
 }

@@ -4,16 +4,13 @@
 //! its set of quads, a strictly ascending list, and its list of orders.
 #![tactic(auto)]
 
-mod digest;
+mod code;
+mod dictionary;
 mod index;
-mod key;
 mod letter;
 mod order;
-mod ordered;
-mod sets;
-mod terms;
-#[cfg(test)]
-mod tests;
+mod run;
+mod runs;
 
 pub use index::Index;
 pub use order::Order;

@@ -1,16 +1,15 @@
-ghost use Rattle.std.specs.Prelude.{◌≡◌, ◌↔◌, ◌<◌, ◌≤◌, ◌^◌, [], ◌∷◌, ◌++◌, map, if◌then◌else◌, IsTrue, IfOk, OnErr, IfSome, IfNone, Some, Contains};
+ghost use Rattle.std.specs.Prelude.{◌≡◌, ◌↔◌, [], ◌∷◌, ◌++◌, map, if◌then◌else◌, IsTrue, IfOk, OnErr, IfSome, IfNone, Some, Contains};
 ghost use Rattle.std.specs.List.{list_any};
 ghost use Rattle.std.specs.Ordering.{eq_by_cmp};
 ghost use Rattle.std.specs.Cmp.{partial_equiv_from_equiv};
 ghost use Rattle.std.proofs.lemmas.Cmp.{eq_by_cmp_equiv};
-ghost use Rattle.rdf_term.specs.Matching.{matches};
-ghost use Rattle.quad_index.specs.Digests.{digests, part_digest};
-ghost use Rattle.quad_index.specs.Letters.{IsArrangement, letter_byte, same_letter, run, order_cmp, order_total, standard_orders};
-ghost use Rattle.quad_index.specs.Keys.{IsWithin};
+ghost use Rattle.quad_index.specs.Letters.{IsArrangement, letter_byte, same_letter, is_term_order, run, order_cmp, order_total, standard_orders};
+ghost use Rattle.quad_index.specs.Codes.{arrange, arrange_back, number_of};
 
 use crate::Orders;
+use crate::code::Code;
 use crate::letter::Letter;
-use rdf_term::{Memory, Pattern, Quad};
+use rdf_term::{Memory, Pattern};
 use std::alloc::Global;
 use std::cmp::Ordering;
 use std::marker::Model;
@@ -78,25 +77,6 @@ fn arranged(
     }
 }
 
-/// The digest of a part behind another one, where the pattern gives both.
-fn then_asked(before: Option<u32>, letter: Letter, pattern: &Pattern) -> Option<u32>
-    ensures { (q : _) → IsTrue (matches pattern.now q) → IfSome result (λ digest. digest ≡ part_digest q letter) }
-{
-    before?;
-    letter.asked(pattern)
-}
-
-/// The least and the greatest number that a digest can be: itself, where it is known.
-fn span(digest: Option<u32>) -> (u32, u32)
-    ensures forward { result.0 ≤ result.1 }
-    ensures known { (n : _) → n < 2 ^ 32 → IfSome digest (λ known. known ≡ n) → (result.0 ≤ n) × (n ≤ result.1) }
-{
-    match digest {
-        None => (0, u32::MAX),
-        Some(known) => (known, known),
-    }
-}
-
 impl Order {
     /// The order that is written as these four letters, where the text is an arrangement of `s`,
     /// `p`, `o` and `c`.
@@ -116,7 +96,7 @@ impl Order {
     }
 
     /// Subject, predicate, object, graph.
-    fn spoc() -> Order
+    pub(crate) fn spoc() -> Order
         ensures { result ≡ Letter.S ∷ Letter.P ∷ Letter.O ∷ Letter.C ∷ [] }
     {
         Order {
@@ -172,32 +152,60 @@ impl Order {
         self.written().cmp(&other.written())
     }
 
-    /// The digests of a quad's parts in this order.
-    pub(crate) fn digests(&self, quad: &Quad) -> [u32; 4]
-        ensures { result ≡ digests self.now quad.now }
+    /// The letters are the four. It does nothing.
+    pub(crate) fn has_each_letter(&self)
+        ensures { IsArrangement self.now }
     {
-        let [a, b, c, d] = self.letters;
-        [
-            a.digest(quad),
-            b.digest(quad),
-            c.digest(quad),
-            d.digest(quad),
-        ]
+        let _letters = &self.letters;
     }
 
-    /// The least and the greatest digests that a quad can have in this order which matches the
-    /// pattern. They differ only behind the leading letters whose parts the pattern gives.
-    pub(crate) fn bounds(&self, pattern: &Pattern) -> ([u32; 4], [u32; 4])
-        ensures matching { (q : _) → IsTrue (matches pattern.now q) → IsWithin result.0 result.1 (digests self.now q) }
-        ensures forward { IsWithin result.0 result.1 result.0 }
+    /// Whether this is the order of quads themselves, subject, predicate, object, graph.
+    pub(crate) fn is_term_order(&self) -> bool
+        ensures { result ≡ is_term_order self.now }
     {
         let [a, b, c, d] = self.letters;
-        let first = a.asked(pattern);
-        let second = then_asked(first, b, pattern);
-        let third = then_asked(second, c, pattern);
-        let fourth = then_asked(third, d, pattern);
-        let (a, b, c, d) = (span(first), span(second), span(third), span(fourth));
-        ([a.0, b.0, c.0, d.0], [a.1, b.1, c.1, d.1])
+        a.is(Letter::S) && b.is(Letter::P) && c.is(Letter::O) && d.is(Letter::C)
+    }
+
+    /// The numbers of a code in this order.
+    pub(crate) fn arrange(&self, code: &Code) -> Code
+        ensures { result ≡ arrange self.now code.now }
+    {
+        let [a, b, c, d] = self.letters;
+        Code {
+            first: a.number(code),
+            second: b.number(code),
+            third: c.number(code),
+            fourth: d.number(code),
+        }
+    }
+
+    /// The number of the part that a letter names, where the numbers stand in this order.
+    fn number_of(&self, code: &Code, letter: Letter) -> u32
+        ensures { result ≡ number_of self.now code.now letter }
+    {
+        let [a, b, c, _] = self.letters;
+        if letter.is(a) {
+            code.first
+        } else if letter.is(b) {
+            code.second
+        } else if letter.is(c) {
+            code.third
+        } else {
+            code.fourth
+        }
+    }
+
+    /// The code whose numbers stand in this order.
+    pub(crate) fn arrange_back(&self, code: &Code) -> Code
+        ensures { result ≡ arrange_back self.now code.now }
+    {
+        Code {
+            first: self.number_of(code, Letter::S),
+            second: self.number_of(code, Letter::P),
+            third: self.number_of(code, Letter::O),
+            fourth: self.number_of(code, Letter::C),
+        }
     }
 
     /// The number of leading letters whose parts the pattern gives.

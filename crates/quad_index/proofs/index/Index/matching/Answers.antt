@@ -1,22 +1,48 @@
-use Rattle.std.proofs.Common.{◌<◌, ◌∙◌, ap, refl, length, arith}
-use Rattle.std.specs.List.{filter}
+use Rattle.std.proofs.Common.{◌≡◌, ◌∙◌, List, map, ap, sym, subst}
+use Rattle.std.specs.List.{filter, AllByRecursion}
+use Rattle.std.specs.List.Sorted.{IsStrictlySortedBy}
+use Rattle.std.proofs.lemmas.List.Kept.{IsStrictlySortedBy-filter}
 use Rattle.rdf_term.specs.Matching.{matches}
-use Rattle.quad_index.specs.Contents.{Arranged, Contents, is_in}
-use Rattle.quad_index.proofs.SetsLemmas.{scanned, found_in_order}
+use Rattle.rdf_term.specs.Order.{quad_cmp}
+use Rattle.rdf_term.specs.Sets.{sorted_set}
+use Rattle.quad_index.specs.declared.code.Code.{Code}
+use Rattle.quad_index.specs.Codes.{code_cmp, arrange_back, decode, IsCode, is_within, HasSame}
+use Rattle.quad_index.specs.Contents.{Contents}
+use Rattle.quad_index.proofs.CodeLemmas.{decode-ascends}
+use Rattle.quad_index.proofs.IndexLemmas.{hits, all-filter, decode-filter, none_match}
 use Rattle.quad_index.proofs.index.Index.matching.Goals as goal
 
-pub returns-then-run-eq0 : goal.returns-then-run-eq0
-returns-then-run-eq0 c = found_in_order c.matching.result _ _
-    (scanned (matches c.args.pattern.now) c.self.inside.terms c.self.inside.terms c.self.invariant.ascending (λ q. refl)
-    ∙ ap (λ (view : Contents). filter (matches c.args.pattern.now) view.quads) c.self.view_is)
-    c.matching.ensures
+pub returns-in_default-clause-value : goal.returns-in_default-clause-value
+returns-in_default-clause-value c =
+    c.new.ensures ∙ sym (none_match c.self.inside.terms (matches c.args.pattern.now) c.self.inside.codes.items c.self.invariant.quads c.in_default.ensures.none)
+    ∙ ap (λ (view : Contents). filter (matches c.args.pattern.now) view.quads) c.self.view_is
 
-pub returns : goal.returns
-returns c =
-    let lengths = ap length c.as_slice.ensures.value in
-    let within : c.best.result < length c.self.inside.sets.items = omega (arith, c.best.ensures.within, lengths) in
-    found_in_order c.matching-2.result _ _
-    (scanned (matches c.args.pattern.now) c.self.inside.terms c.index-set.result.now.quads c.self.invariant.ascending
-    (λ q. ap (λ (s : Arranged). is_in q s.quads) c.index-set.ensures ∙ c.self.invariant.same c.best.result c.index-set.result.now within q)
-    ∙ ap (λ (view : Contents). filter (matches c.args.pattern.now) view.quads) c.self.view_is)
-    c.matching-2.ensures
+pub returns-in_default-clause-ascending : goal.returns-in_default-clause-ascending
+unfolding IsStrictlySortedBy
+returns-in_default-clause-ascending c = subst (IsStrictlySortedBy quad_cmp) (sym c.new.ensures) tt
+
+pub quads-requires : goal.quads-requires
+quads-requires c =
+    let found : c.as_slice-3.result.now ≡ filter (is_within c.in-Some.low c.in-Some.high) c.self.inside.codes.items =
+    c.as_slice-3.ensures.value ∙ c.set_of-found.ensures ∙ ap (sorted_set code_cmp) c.in_ok-found.ensures
+    ∙ hits c.in-Some.low c.in-Some.high c.self.inside.codes.items (map (arrange_back c.serving-order.result.0) c.serving-order.result.1.now) c.self.invariant.ascending
+    (subst (λ (codes : List Code). HasSame codes (map (arrange_back c.serving-order.result.0) c.serving-order.result.1.now)) c.as_slice.ensures.value c.serving-order.ensures.same) in
+    subst (AllByRecursion (IsCode c.self.inside.terms)) (sym found)
+    (all-filter (IsCode c.self.inside.terms) (is_within c.in-Some.low c.in-Some.high) c.self.inside.codes.items c.self.invariant.quads)
+
+pub returns-clause-value : goal.returns-clause-value
+returns-clause-value c =
+    let found : c.as_slice-3.result.now ≡ filter (is_within c.in-Some.low c.in-Some.high) c.self.inside.codes.items =
+    c.as_slice-3.ensures.value ∙ c.set_of-found.ensures ∙ ap (sorted_set code_cmp) c.in_ok-found.ensures
+    ∙ hits c.in-Some.low c.in-Some.high c.self.inside.codes.items (map (arrange_back c.serving-order.result.0) c.serving-order.result.1.now) c.self.invariant.ascending
+    (subst (λ (codes : List Code). HasSame codes (map (arrange_back c.serving-order.result.0) c.serving-order.result.1.now)) c.as_slice.ensures.value c.serving-order.ensures.same) in
+    c.in_ok-quads.ensures ∙ ap (map (decode c.self.inside.terms)) found
+    ∙ decode-filter c.self.inside.terms (is_within c.in-Some.low c.in-Some.high) (matches c.args.pattern.now) c.self.inside.codes.items c.self.invariant.quads c.in-Some.ensures.some
+    ∙ ap (λ (view : Contents). filter (matches c.args.pattern.now) view.quads) c.self.view_is
+
+pub returns-clause-ascending : goal.returns-clause-ascending
+returns-clause-ascending c =
+    subst (IsStrictlySortedBy quad_cmp) (sym (returns-clause-value c))
+    (subst (λ (view : Contents). IsStrictlySortedBy quad_cmp (filter (matches c.args.pattern.now) view.quads)) c.self.view_is
+    (IsStrictlySortedBy-filter quad_cmp (matches c.args.pattern.now) (map (decode c.self.inside.terms) c.self.inside.codes.items)
+    (decode-ascends c.self.inside.terms c.self.invariant.dictionary c.self.inside.codes.items c.self.invariant.quads c.self.invariant.ascending)))
