@@ -1,2 +1,4 @@
+pub mod BoundLemmas
+pub mod DeltaLemmas
 pub mod Examples
 pub mod LayerLemmas

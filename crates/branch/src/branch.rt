@@ -3,9 +3,11 @@ ghost use Rattle.std.specs.List.Sorted.{IsStrictlySortedBy};
 ghost use Rattle.rdf_term.specs.Order.{quad_cmp};
 ghost use Rattle.quad_index.specs.Contents.{is_in};
 ghost use Rattle.change_set.specs.Content.{applied};
+ghost use Rattle.branch.specs.Deltas.{IsDelta};
 ghost use Rattle.rdf_term.specs.declared.pattern.GraphPick.TheVariants as picks;
 
-use crate::layers;
+use crate::deltas::Delta;
+use crate::{deltas, layers};
 use change_set::ChangeSet;
 use quad_index::Index;
 use rdf_term::{GraphPick, Memory, Pattern, Quad, Quads, Scan};
@@ -28,15 +30,14 @@ pub struct Branch {
 impl Model for Branch {
     ghost use Rattle.std.specs.Prelude.{length, map};
     ghost use Rattle.std.specs.Arc.{arc_value};
-    ghost use Rattle.std.specs.List.Sorted.{IsStrictlySortedBy};
-    ghost use Rattle.rdf_term.specs.Order.{quad_cmp};
+    ghost use Rattle.branch.specs.Bounds.{IsStacked};
     ghost use Rattle.branch.specs.Layers.{Layered, layered};
 
     ghost Value = { Layered };
 
     ghost view = { λ it. let layers = map arc_value it.layers.items in record { quads = layered it.base.value.quads layers; orders = it.base.value.orders; layers = length layers } };
 
-    ghost invariant = { λ it. IsStrictlySortedBy quad_cmp it.base.value.quads };
+    ghost invariant = { λ it. IsStacked it.base.value.quads (map arc_value it.layers.items) };
 }
 
 /// The pattern that matches every quad.
@@ -80,20 +81,55 @@ impl Branch {
     }
 
     /// Applies a change set to the content. Without memory the branch stays as it was.
+    ///
+    /// The set becomes the topmost layer, and is merged with those under it until each layer has at
+    /// least twice as many changes as the one above it. A set of no changes adds no layer.
     pub fn push(&mut self, set: ChangeSet) -> Result<(), Memory>
         ensures quads { OnOk result (self.new.quads ≡ applied self.old.quads set) }
         ensures orders { self.new.orders ≡ self.old.orders }
         ensures layers { OnOk result (self.new.layers ≤ self.old.layers + 1) }
         ensures memory { OnErr result (self.new ≡ self.old) }
     {
-        self.layers.push(Arc::new(self.alloc, set)?)?;
+        let set = Arc::new(self.alloc, set)?;
+        self.push_shared(set)?;
         Ok(())
     }
 
-    /// The number of change sets above the base. A scan goes through each of them besides what it
-    /// finds, and a pin shares each, so an owner folds where they have become many.
+    /// Applies a change set that others may share, as `push` does. Without memory the branch stays as
+    /// it was.
+    pub fn push_shared(&mut self, set: Arc<ChangeSet>) -> Result<(), Memory>
+        ensures quads { OnOk result (self.new.quads ≡ applied self.old.quads set.value) }
+        ensures orders { self.new.orders ≡ self.old.orders }
+        ensures layers { OnOk result (self.new.layers ≤ self.old.layers + 1) }
+        ensures memory { OnErr result (self.new ≡ self.old) }
+    {
+        // What takes memory comes first, so that the layers change where nothing can fail any more.
+        let pile = layers::pile_up(self.alloc, self.layers.as_slice(), set)?;
+        layers::put(&mut self.layers, pile)?;
+        Ok(())
+    }
+
+    /// What a change set would bring to the content and take from it. It looks at the quads that the
+    /// set names and at those that its patterns match, and at no others.
+    pub fn delta(&self, set: &ChangeSet) -> Result<Delta, Memory>
+        ensures { IfOk result (λ it. IsDelta self.now.quads (applied self.now.quads set.now) it) }
+    {
+        Ok(Delta {
+            added: deltas::absent(self, set.scan(self.alloc, &everything())?),
+            removed: deltas::lost(
+                self,
+                set,
+                deltas::candidates(self.alloc, self, set)?.into_set()?,
+            ),
+        })
+    }
+
+    /// The number of change sets above the base, at most 64. Each has at least twice as many changes as
+    /// the one above it. A scan looks each of them up, and a pin shares each.
     pub fn layers(&self) -> usize
-        ensures { result ≡ self.now.layers }
+        ensures number { result ≡ self.now.layers }
+        ensures most { result ≤ 64 }
+        ensures ascending { IsStrictlySortedBy quad_cmp self.now.quads }
     {
         self.layers.len()
     }

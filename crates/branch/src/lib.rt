@@ -5,8 +5,8 @@
 #![tactic(auto)]
 
 mod branch;
+mod deltas;
 mod layers;
-#[cfg(test)]
-mod tests;
 
 pub use branch::Branch;
+pub use deltas::Delta;

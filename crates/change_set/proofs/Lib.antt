@@ -1,4 +1,7 @@
 pub mod Contents
+pub mod Covers
+pub mod DeltaLemmas
 pub mod Effects
 pub mod Examples
-pub mod Steps
+pub mod Gathering
+pub mod Ranges

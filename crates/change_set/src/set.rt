@@ -1,57 +1,54 @@
-ghost use Rattle.std.specs.Prelude.{◌≡◌, [], ◌∷◌, ◌++◌, map, filter, find, IfOk, OnOk, OnErr};
-ghost use Rattle.std.specs.List.{list_any, filter_map};
+ghost use Rattle.std.specs.Prelude.{◌≡◌, [], ◌∷◌, ◌++◌, length, find, IfOk, OnOk, OnErr};
+ghost use Rattle.std.specs.List.{list_any};
 ghost use Rattle.std.specs.Option.{option_copied};
-ghost use Rattle.std.specs.BTreeMap.{keys};
 ghost use Rattle.rdf_term.specs.Matching.{matches};
-ghost use Rattle.change_set.specs.declared.change.Change.TheVariants.{RemoveMatching};
-ghost use Rattle.change_set.specs.Content.{added, last_effect, named_quads, SameChanges};
-ghost use Rattle.change_set.specs.Kept.{marked, marked_entry};
+ghost use Rattle.change_set.specs.Content.{last_effect, named_quads, SameChanges};
+ghost use Rattle.change_set.specs.Deltas.{removed_patterns, removed_quads, swapped};
 
 use crate::effect::Mark;
+use crate::gathered::Gathered;
+use crate::kept::Kept;
 use crate::{Change, Effect};
 use rdf_term::{Duplicate, Memory, Pattern, Quad, Quads, Scan};
 use std::alloc::Global;
-use std::collections::BTreeMap;
 use std::marker::Model;
+use std::sync::Arc;
 
 /// A list of changes of which only what counts is kept: for each named quad what the last change
-/// that touches it does, and the removed patterns for all other quads.
+/// that touches it does, and the removed patterns for all other quads. A pattern that a later one
+/// covers is not kept.
 ///
 /// Contracts see it as a list of changes that does to every quad what the whole list does, and
 /// names the same quads.
+///
+/// What is kept is never changed, so that copies share it: a copy takes constant time, and a call
+/// that changes a set makes a new list, which shares the quads of the old one.
 #[derive(Drop)]
 pub struct ChangeSet {
     alloc: Global,
-    patterns: Vec<Pattern>,
-    named: BTreeMap<Quad, Mark>,
+    // None where there are no changes, since an empty set takes no memory.
+    kept: Option<Arc<Kept>>,
 }
 
 impl Model for ChangeSet {
-    ghost use Rattle.std.specs.Prelude.{List};
-    ghost use Rattle.std.specs.BTreeMap.{IsOrdered};
-    ghost use Rattle.rdf_term.specs.Order.{quad_cmp};
+    ghost use Rattle.std.specs.Prelude.{List, []};
+    ghost use Rattle.std.specs.Arc.{arc_value};
+    ghost use Rattle.std.specs.Option.{unwrap_or, option_map};
     ghost use Rattle.change_set.specs.declared.change.Change.{Change};
-    ghost use Rattle.change_set.specs.Kept.{changes_of};
 
     ghost Value = { List Change };
 
-    ghost view = { λ s. changes_of s.patterns.items s.named.entries };
-
-    ghost invariant = { λ s. IsOrdered quad_cmp s.named };
+    ghost view = { λ s. unwrap_or (option_map arc_value s.kept) [] };
 }
 
-/// Whether one of the patterns matches the quad.
-fn is_matched(patterns: &[Pattern], quad: &Quad) -> bool
-    ensures { result ≡ list_any (λ p. matches p quad.now) patterns.now }
+/// Adds what a set keeps to newer changes.
+fn add_older(gathered: &mut Gathered, set: &ChangeSet) -> Result<(), Memory>
+    ensures { OnOk result (SameChanges gathered.new (set.now ++ gathered.old)) }
 {
-    patterns.iter().any(|pattern| pattern.matches(quad))
-}
-
-/// The least named quad that one of the patterns matches.
-fn least_matched<'a>(named: &'a BTreeMap<Quad, Mark>, patterns: &[Pattern]) -> Option<&'a Quad>
-    ensures { option_copied result ≡ find (λ q. list_any (λ p. matches p q) patterns.now) (keys named.now) }
-{
-    named.keys().find(|quad| is_matched(patterns, quad))
+    match &set.kept {
+        None => Ok(()),
+        Some(kept) => gathered.add_kept(kept),
+    }
 }
 
 impl ChangeSet {
@@ -59,56 +56,41 @@ impl ChangeSet {
     pub fn new(alloc: Global) -> ChangeSet
         ensures { result ≡ [] }
     {
-        ChangeSet {
+        ChangeSet { alloc, kept: None }
+    }
+
+    fn from_gathered(alloc: Global, gathered: Gathered) -> Result<ChangeSet, Memory>
+        ensures { IfOk result (λ set. SameChanges set gathered) }
+    {
+        let kept = gathered.finish()?;
+        Ok(ChangeSet {
             alloc,
-            patterns: Vec::new(alloc),
-            named: BTreeMap::new(alloc),
-        }
+            kept: Some(Arc::new(alloc, kept)?),
+        })
     }
 
     /// The set that stands for a list of changes.
     pub fn from_changes(alloc: Global, changes: &[Change]) -> Result<ChangeSet, Memory>
         ensures { IfOk result (λ set. SameChanges set changes.now) }
     {
-        let mut set = ChangeSet::new(alloc);
-        for change in changes {
-            set.push(change)?;
-        }
+        let mut gathered = Gathered::new(alloc);
+        gathered.add_all(changes)?;
+        let set = ChangeSet::from_gathered(alloc, gathered)?;
         Ok(set)
     }
 
     /// Adds a change at the end of the list. Without memory the set stays as it was.
+    ///
+    /// It takes time by the number of changes that are kept; `from_changes` makes a set of many.
     pub fn push(&mut self, change: &Change) -> Result<(), Memory>
         ensures ok { OnOk result (SameChanges self.new (self.old ++ change.now ∷ [])) }
         ensures memory { OnErr result (self.new ≡ self.old) }
     {
-        match change {
-            Change::Add(quad) => self.mark(quad, Mark::Adds),
-            Change::Remove(quad) => self.mark(quad, Mark::Removes),
-            Change::RemoveMatching(pattern) => self.remove_matching(pattern),
-        }
-    }
-
-    fn mark(&mut self, quad: &Quad, mark: Mark) -> Result<(), Memory>
-        ensures ok { OnOk result (SameChanges self.new (self.old ++ marked quad.now mark ∷ [])) }
-        ensures memory { OnErr result (self.new ≡ self.old) }
-    {
-        let quad = quad.copy(self.alloc)?;
-        self.named.insert(quad, mark)?;
-        Ok(())
-    }
-
-    fn remove_matching(&mut self, pattern: &Pattern) -> Result<(), Memory>
-        ensures ok { OnOk result (SameChanges self.new (self.old ++ RemoveMatching pattern.now ∷ [])) }
-        ensures memory { OnErr result (self.new ≡ self.old) }
-    {
-        self.patterns.push(pattern.copy(self.alloc)?)?;
-        self.named.retain(|quad, mark| {
-            if pattern.matches(quad) {
-                *mark = Mark::Removes;
-            }
-            true
-        });
+        let mut gathered = Gathered::new(self.alloc);
+        gathered.add(change)?;
+        add_older(&mut gathered, self)?;
+        let longer = ChangeSet::from_gathered(self.alloc, gathered)?;
+        *self = longer;
         Ok(())
     }
 
@@ -116,51 +98,71 @@ impl ChangeSet {
     pub fn merge(alloc: Global, older: &ChangeSet, newer: &ChangeSet) -> Result<ChangeSet, Memory>
         ensures { IfOk result (λ set. SameChanges set (older.now ++ newer.now)) }
     {
-        let mut merged = ChangeSet::new(alloc);
-        merged.append(older)?;
-        merged.append(newer)?;
-        Ok(merged)
+        let mut gathered = Gathered::new(alloc);
+        add_older(&mut gathered, newer)?;
+        add_older(&mut gathered, older)?;
+        let set = ChangeSet::from_gathered(alloc, gathered)?;
+        Ok(set)
     }
 
-    fn append(&mut self, newer: &ChangeSet) -> Result<(), Memory>
-        ensures { OnOk result (SameChanges self.new (self.old ++ newer.now)) }
+    /// Adds the changes of a newer set at the end. Without memory the set stays as it was.
+    pub fn append(&mut self, newer: &ChangeSet) -> Result<(), Memory>
+        ensures ok { OnOk result (SameChanges self.new (self.old ++ newer.now)) }
+        ensures memory { OnErr result (self.new ≡ self.old) }
     {
-        self.append_patterns(newer.patterns.as_slice())?;
-        self.append_named(&newer.named)?;
+        let longer = ChangeSet::merge(self.alloc, self, newer)?;
+        *self = longer;
         Ok(())
     }
 
-    fn append_patterns(&mut self, patterns: &[Pattern]) -> Result<(), Memory>
-        ensures { OnOk result (SameChanges self.new (self.old ++ map RemoveMatching patterns.now)) }
+    /// The set that removes some quads and then adds others.
+    pub fn swapping(alloc: Global, added: &[Quad], removed: &[Quad]) -> Result<ChangeSet, Memory>
+        ensures { IfOk result (λ set. SameChanges set (swapped added.now removed.now)) }
     {
-        for pattern in patterns {
-            self.remove_matching(pattern)?;
+        let mut gathered = Gathered::new(alloc);
+        gathered.add_each(added, Mark::Adds)?;
+        gathered.add_each(removed, Mark::Removes)?;
+        let set = ChangeSet::from_gathered(alloc, gathered)?;
+        Ok(set)
+    }
+
+    /// The number of changes that are kept: of named quads and of removed patterns.
+    pub fn len(&self) -> u64
+        ensures { result ≡ length self.now }
+    {
+        match &self.kept {
+            None => 0,
+            Some(kept) => kept.len(),
         }
-        Ok(())
     }
 
-    fn append_named(&mut self, named: &BTreeMap<Quad, Mark>) -> Result<(), Memory>
-        ensures { OnOk result (SameChanges self.new (self.old ++ map marked_entry named.now.entries)) }
+    /// The patterns that the set removes; a quad that it names is touched by its own change alone.
+    pub fn patterns(&self) -> &[Pattern]
+        ensures { result.now ≡ removed_patterns self.now }
     {
-        for (quad, mark) in named {
-            self.mark(quad, *mark)?;
+        match &self.kept {
+            None => &[],
+            Some(kept) => kept.patterns(),
         }
-        Ok(())
+    }
+
+    /// The quads that the set names and removes.
+    pub fn removals(&self, alloc: Global) -> Result<Quads, Memory>
+        ensures { IfOk result (λ quads. quads ≡ removed_quads self.now) }
+    {
+        match &self.kept {
+            None => Ok(Quads::new(alloc)),
+            Some(kept) => kept.removals(alloc),
+        }
     }
 
     /// What the last change that touches the quad does.
     pub fn effect(&self, quad: &Quad) -> Effect
         ensures { result ≡ last_effect self.now quad.now }
     {
-        match self.named.get(quad) {
-            Some(mark) => mark.effect(),
-            None => {
-                if is_matched(&self.patterns, quad) {
-                    Effect::Removed
-                } else {
-                    Effect::Untouched
-                }
-            }
+        match &self.kept {
+            None => Effect::Untouched,
+            Some(kept) => kept.effect(quad),
         }
     }
 
@@ -169,7 +171,20 @@ impl ChangeSet {
     pub fn least_touched(&self, patterns: &[Pattern]) -> Option<&Quad>
         ensures { option_copied result ≡ find (λ q. list_any (λ p. matches p q) patterns.now) (named_quads self.now) }
     {
-        least_matched(&self.named, patterns)
+        match &self.kept {
+            None => None,
+            Some(kept) => kept.least_touched(patterns),
+        }
+    }
+}
+
+impl Duplicate for ChangeSet {
+    fn copy(&self, alloc: Global) -> Result<ChangeSet, Memory> {
+        let kept = match &self.kept {
+            None => None,
+            Some(kept) => Some(Arc::try_clone(kept)?),
+        };
+        Ok(ChangeSet { alloc, kept })
     }
 }
 
@@ -179,26 +194,12 @@ impl Scan for ChangeSet {
     ghost content = { changes.content };
 
     fn scan(&self, alloc: Global, pattern: &Pattern) -> Result<Quads, Memory> {
-        let mut found = Quads::new(alloc);
-        for (quad, mark) in &self.named {
-            push_added(alloc, &mut found, pattern, quad, *mark)?;
+        match &self.kept {
+            None => Ok(Quads::new(alloc)),
+            Some(kept) => {
+                let found = kept.matching(alloc, pattern)?;
+                Ok(found)
+            }
         }
-        Ok(found)
     }
-}
-
-/// Adds a copy of the quad at the end, where its mark adds it and the pattern matches it.
-fn push_added(
-    alloc: Global,
-    found: &mut Quads,
-    pattern: &Pattern,
-    quad: &Quad,
-    mark: Mark,
-) -> Result<(), Memory>
-    ensures { OnOk result (found.new ≡ found.old ++ filter (matches pattern.now) (filter_map added (marked quad.now mark ∷ []))) }
-{
-    if mark == Mark::Adds && pattern.matches(quad) {
-        found.push(quad.copy(alloc)?)?;
-    }
-    Ok(())
 }
