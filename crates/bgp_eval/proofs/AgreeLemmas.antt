@@ -11,7 +11,7 @@ use Rattle.rdf_term.specs.declared.graph.Graph.TheVariants.{Absent, Named}
 use Rattle.rdf_term.specs.Statement.{Statement}
 use Rattle.rdf_term.specs.Order.{term_cmp}
 use Rattle.rdf_term.specs.OrderLaws.{term_exact}
-use Rattle.query_solutions.specs.Solutions.{is_term}
+use Rattle.query_model.specs.Solutions.{is_term}
 use Rattle.bgp_eval.specs.declared.part.Part.{Part}
 use Rattle.bgp_eval.specs.declared.part.Part.TheVariants.{Given, Unknown, Unbound}
 use Rattle.bgp_eval.specs.declared.step.Reach.{Reach}

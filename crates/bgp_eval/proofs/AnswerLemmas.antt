@@ -13,10 +13,10 @@ use Rattle.query_model.specs.declared.query.Query.TheVariants.{Select, Ask, Cons
 use Rattle.query_model.specs.declared.query.Slot.{Slot}
 use Rattle.query_model.specs.declared.query.Slot.TheVariants.{Var}
 use Rattle.query_model.specs.declared.query.TriplePattern.{TriplePattern}
-use Rattle.query_solutions.specs.declared.found.Found.TheVariants as answer
-use Rattle.query_solutions.specs.Found.{are_more, constructed, cut_rows, found, made_of, projection, selected}
-use Rattle.query_solutions.specs.Solutions.{solutions}
-use Rattle.query_solutions.specs.Unknowns.{unknowns}
+use Rattle.query_model.specs.declared.found.Found.TheVariants as answer
+use Rattle.query_model.specs.Found.{are_more, constructed, cut_rows, found, made_of, projection, selected}
+use Rattle.query_model.specs.Solutions.{solutions}
+use Rattle.query_model.specs.Unknowns.{unknowns}
 use Rattle.bgp_eval.specs.declared.part.Part.{Part}
 use Rattle.bgp_eval.specs.declared.search.Kept.TheVariants.{Whole}
 use Rattle.bgp_eval.specs.declared.search.Wanted.{Wanted}

@@ -3,6 +3,7 @@ pub mod AnswerLemmas
 pub mod CountLemmas
 pub mod NumberLemmas
 pub mod OnceLemmas
+pub mod PlaceLemmas
 pub mod SearchLemmas
 pub mod ShapeLemmas
 pub mod SoughtLemmas

@@ -12,7 +12,7 @@ use Rattle.rdf_term.specs.TextOrder.{text_cmp, text_total}
 use Rattle.rdf_term.specs.declared.term.Term.{Term}
 use Rattle.query_model.specs.declared.query.Slot.{Slot}
 use Rattle.query_model.specs.declared.query.Slot.TheVariants.{Var, Blank, Fixed}
-use Rattle.query_solutions.specs.Unknowns.{is_same, value_at, value_of, with_unknown}
+use Rattle.query_model.specs.Unknowns.{is_same, value_at, value_of, with_unknown}
 use Rattle.bgp_eval.specs.Parts.{next, number_in, numbered, part_of, part_value}
 
 -- an unknown has a number where it stands among these

@@ -13,7 +13,7 @@ use Rattle.rdf_term.specs.OrderLaws.{term_total}
 use Rattle.bgp_eval.specs.declared.step.Reach.{Reach}
 use Rattle.bgp_eval.specs.declared.step.Reach.TheVariants.{Anywhere, In}
 use Rattle.bgp_eval.specs.Ways.{counts, is_one_triple}
-use Rattle.bgp_eval.proofs.CountLemmas.{one_if}
+use Rattle.query_model.proofs.CountLemmas.{one_if}
 
 -- the order of triples
 triple_cmp : Statement → Statement → Ordering

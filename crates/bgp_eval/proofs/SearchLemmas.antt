@@ -1,11 +1,17 @@
 -- A search keeps the first of what it finds.
 use Rattle.std.proofs.Common.{◌≡◌, ℕ, zero, suc, ◌+◌, ◌≤◌, List, [], ◌∷◌, ◌++◌, Option, Some, true, nat_lt, min, refl, sym, ap, ◌∙◌, arith, length, map, take}
-use Rattle.std.specs.List.{flat_map}
+use Rattle.std.specs.List.{flat_map, list_any}
+use Rattle.std.specs.Ordering.{eq_by_cmp}
+use Rattle.std.specs.List.Sorted.{IsStrictlySortedBy}
 use Rattle.std.proofs.Math.Seq.{take-append_seam}
 use Rattle.std.proofs.lemmas.Bool.Decides.{nat_tests}
 use Rattle.std.proofs.lemmas.List.{append_assoc, length-take, map-append}
 use Rattle.rdf_term.specs.declared.term.Term.{Term}
 use Rattle.rdf_term.specs.Statement.{Statement}
+use Rattle.rdf_term.specs.Order.{quad_cmp}
+use Rattle.rdf_term.specs.OrderLaws.{quad_exact, quad_total}
+use Rattle.rdf_term.specs.Sets.{in_order}
+use Rattle.rdf_term.proofs.SetLemmas.{sorted_set-is}
 use Rattle.bgp_eval.specs.declared.search.Kept.{Kept}
 use Rattle.bgp_eval.specs.declared.step.Step.{Step}
 use Rattle.bgp_eval.specs.Kept.{kept}
@@ -50,3 +56,7 @@ module _ (views : List (List Statement)) (k : Kept) (row : List (Option Term)) (
 
 pub length-take_first : {X : Type 0} (n : ℕ) (xs ys : List X) → ys ≡ take n xs → length ys ≤ n
 length-take_first n xs ys e = let long : length ys ≡ min n (length xs) = ap length e ∙ length-take n xs in omega arith
+
+-- quads in order, each once, are their own set
+pub already_in_order : (found quads : List Statement) → found ≡ quads → IsStrictlySortedBy quad_cmp found → found ≡ in_order quads
+already_in_order found quads e sorted = sorted_set-is quad_total quad_exact found quads sorted (λ q. ap (λ xs. list_any (eq_by_cmp quad_cmp q) xs) e)

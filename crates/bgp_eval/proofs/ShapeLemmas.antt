@@ -8,10 +8,10 @@ use Rattle.rdf_term.specs.declared.term.Term.{Term}
 use Rattle.rdf_term.specs.Statement.{Statement}
 use Rattle.query_model.specs.declared.query.Slot.{Slot}
 use Rattle.query_model.specs.declared.query.TriplePattern.{TriplePattern}
-use Rattle.query_solutions.specs.Found.{made_of, triple_of}
+use Rattle.query_model.specs.Found.{made_of, triple_of}
 use Rattle.bgp_eval.specs.declared.construct.Shape.{Shape}
 use Rattle.bgp_eval.specs.Shapes.{shape_of, triple_in, triples_in}
-use Rattle.bgp_eval.specs.Steps.{step_of, steps_of}
+use Rattle.bgp_eval.specs.Steps.{step_of, search_steps}
 use Rattle.bgp_eval.proofs.NumberLemmas.{value_of-is}
 
 -- one item more
@@ -50,14 +50,14 @@ enumerate_from-append n (y ∷ xs) x =
     let next : (n m : ℕ) → (n + 1) + m ≡ n + suc m = λ n m. omega arith in
     ap (λ ys. (n, y) ∷ ys) (enumerate_from-append (n + 1) xs x ∙ ap (λ k. enumerate_from (n + 1) xs ++ (k, x) ∷ []) (next n (length xs)))
 
-pub steps_of_more : (names : List Slot) (views : ℕ) (patterns : List TriplePattern) (i : ℕ) (x : TriplePattern) → i < length patterns → x ≡ get_or patterns i x
-    → steps_of names views (take (i + 1) patterns) ≡ steps_of names views (take i patterns) ++ step_of names views (i, x) ∷ []
-steps_of_more names views patterns i x h is =
+pub search_steps_more : (names : List Slot) (views : ℕ) (patterns : List TriplePattern) (i : ℕ) (x : TriplePattern) → i < length patterns → x ≡ get_or patterns i x
+    → search_steps names views (take (i + 1) patterns) ≡ search_steps names views (take i patterns) ++ step_of names views (i, x) ∷ []
+search_steps_more names views patterns i x h is =
     let long : length (take i patterns) ≡ i = length-take-le i patterns (omega arith) in
-    ap (steps_of names views) (take_more patterns i x h)
+    ap (search_steps names views) (take_more patterns i x h)
     ∙ ap (map (step_of names views)) (enumerate_from-append 0 (take i patterns) (get_or patterns i x))
     ∙ map-append (step_of names views) (enumerate_from 0 (take i patterns)) ((0 + length (take i patterns), get_or patterns i x) ∷ [])
-    ∙ (λ j. steps_of names views (take i patterns) ++ step_of names views ((zero-add (length (take i patterns)) ∙ long) j, sym is j) ∷ [])
+    ∙ (λ j. search_steps names views (take i patterns) ++ step_of names views ((zero-add (length (take i patterns)) ∙ long) j, sym is j) ∷ [])
 
 -- triples
 

@@ -18,16 +18,16 @@ use Rattle.query_model.specs.declared.query.Scope.{Scope}
 use Rattle.query_model.specs.declared.query.Scope.TheVariants as scope
 use Rattle.query_model.specs.declared.query.Slot.{Slot}
 use Rattle.query_model.specs.declared.query.TriplePattern.{TriplePattern}
-use Rattle.query_solutions.specs.Unknowns.{unknowns}
-use Rattle.query_solutions.specs.Solutions.{assignments, is_found, is_in_scope, is_instance, is_term, lookup_of, lookups, solutions, terms_of}
-use Rattle.query_solutions.specs.Laws.{EachSolutionOnce, is_solution}
+use Rattle.query_model.specs.Unknowns.{unknowns}
+use Rattle.query_model.specs.Solutions.{assignments, is_found, is_in_scope, is_instance, is_term, lookup_of, lookups, solutions, terms_of}
+use Rattle.query_model.specs.Laws.{EachSolutionOnce, is_solution}
 use Rattle.bgp_eval.specs.declared.search.Wanted.{Wanted}
 use Rattle.bgp_eval.specs.declared.step.Step.{Step}
 use Rattle.bgp_eval.specs.Kept.{kept}
 use Rattle.bgp_eval.specs.Sought.{IsSought}
-use Rattle.bgp_eval.specs.Steps.{reach_of, step_of, steps_of}
+use Rattle.bgp_eval.specs.Steps.{reach_of, step_of, search_steps}
 use Rattle.bgp_eval.specs.Ways.{ways}
-use Rattle.bgp_eval.proofs.CountLemmas.{count, count_by-is, one_if, same_counts, split_at, stands, Split}
+use Rattle.query_model.proofs.CountLemmas.{count, count_is, one_if, same_counts, split_at, stands, Split}
 use Rattle.bgp_eval.proofs.AgreeLemmas.{agrees, fits_step, is_reached}
 use Rattle.bgp_eval.proofs.NumberLemmas.{value_of-is}
 use Rattle.bgp_eval.proofs.WaysLemmas.{count-ways, is_step_found, is_term-same}
@@ -141,7 +141,7 @@ instance-is names row views x q =
     at (scope.Graph y) (Named t) = ap (λ v. is_term v t) (value_of-is names row y)
 
 found-is : (names : List Slot) (row : List (Option Term)) (views : List (List Statement)) (patterns : List TriplePattern)
-    → list_all (is_found names row) (lookups views patterns) ≡ list_all (is_step_found views row) (steps_of names (length views) patterns)
+    → list_all (is_found names row) (lookups views patterns) ≡ list_all (is_step_found views row) (search_steps names (length views) patterns)
 unfolding lookups
 found-is names row views patterns =
     list_all-maps (is_found names row) (lookup_of views) (is_step_found views row) (step_of names (length views))
@@ -149,9 +149,9 @@ found-is names row views patterns =
     (enumerate_from 0 patterns)
 
 module _ (once : EachSolutionOnce) (patterns : List TriplePattern) (views : List (List Statement)) (plan : List Step)
-    (planned : IsPermutation (steps_of (unknowns patterns) (length views) patterns) plan) where
+    (planned : IsPermutation (search_steps (unknowns patterns) (length views) patterns) plan) where
   count-solutions : (q : List (Option Term)) → count (eq_by_cmp row_cmp q) (solutions patterns views) ≡ one_if (is_solution patterns views q)
-  count-solutions q = sym (count_by-is (eq_by_cmp row_cmp q) (solutions patterns views)) ∙ once patterns views q ∙ at (is_solution patterns views q)
+  count-solutions q = sym (count_is (eq_by_cmp row_cmp q) (solutions patterns views)) ∙ once patterns views q ∙ at (is_solution patterns views q)
     where
       at : (b : Bool) → (if b then 1 else 0) ≡ one_if b
       at true = refl
@@ -182,10 +182,10 @@ module _ (once : EachSolutionOnce) (patterns : List TriplePattern) (views : List
 
 -- What a search finds that goes on from a row without values.
 pub sought : EachSolutionOnce → (wanted : Wanted) (group : List TriplePattern) (views : List (List Statement)) (named : List Slot) (steps plan : List Step) (from : List (Option Term))
-    (old rows : List (List (Option Term))) → named ≡ unknowns group → steps ≡ steps_of named (length views) group → IsPermutation steps plan → from ≡ replicate (length named) None → old ≡ []
+    (old rows : List (List (Option Term))) → named ≡ unknowns group → steps ≡ search_steps named (length views) group → IsPermutation steps plan → from ≡ replicate (length named) None → old ≡ []
     → rows ≡ take (wanted.most + 1) (old ++ map (kept wanted.kept) (ways views plan from)) → IsSought wanted group views rows
 sought once wanted group views named steps plan from old rows names-are steps-are planned start-is old-is found =
-    let right : IsPermutation (steps_of (unknowns group) (length views) group) plan = subst (λ s. IsPermutation s plan) (steps-are ∙ ap (λ n. steps_of n (length views) group) names-are) planned in
+    let right : IsPermutation (search_steps (unknowns group) (length views) group) plan = subst (λ s. IsPermutation s plan) (steps-are ∙ ap (λ n. search_steps n (length views) group) names-are) planned in
     record {
       all = ways views plan (replicate (length (unknowns group)) None);
       solutions = ways-are once group views plan right;

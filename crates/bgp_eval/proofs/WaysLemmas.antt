@@ -17,7 +17,7 @@ use Rattle.rdf_term.specs.Order.{quad_cmp, term_cmp}
 use Rattle.rdf_term.specs.OrderLaws.{quad_total, quad_exact, term_exact, term_total}
 use Rattle.rdf_term.specs.Sets.{sorted_set}
 use Rattle.rdf_term.proofs.SetLemmas.{has, has-sorted_set, sorted_set-sorted}
-use Rattle.query_solutions.specs.Solutions.{is_term}
+use Rattle.query_model.specs.Solutions.{is_term}
 use Rattle.bgp_eval.specs.declared.part.Part.{Part}
 use Rattle.bgp_eval.specs.declared.part.Part.TheVariants.{Given, Unknown, Unbound}
 use Rattle.bgp_eval.specs.declared.step.Reach.{Reach}
@@ -26,7 +26,8 @@ use Rattle.bgp_eval.specs.declared.step.Step.{Step}
 use Rattle.bgp_eval.specs.Parts.{part_value}
 use Rattle.bgp_eval.specs.Steps.{named_pick, pattern_of, quads_of, reach_pick}
 use Rattle.bgp_eval.specs.Ways.{candidates, counts, extended, extensions, in_front, is_one_triple, next_row, next_rows, ways}
-use Rattle.bgp_eval.proofs.CountLemmas.{count, count-flat_map, one_if}
+use Rattle.query_model.proofs.CountLemmas.{count, one_if}
+use Rattle.bgp_eval.proofs.CountLemmas.{count-flat_map}
 use Rattle.bgp_eval.proofs.AgreeLemmas.{agrees, agrees_if, agrees-extended, fits_step, is_reached}
 use Rattle.bgp_eval.proofs.OnceLemmas.{passing, passing-alone, passing-anywhere}
 

@@ -2,7 +2,7 @@
 use Rattle.std.specs.Prelude.{◌≡◌, Option, Some, None}
 use Rattle.std.specs.declared.result.Result.{Result}
 use Rattle.std.specs.declared.result.Result.TheVariants.{Ok, Err}
-use Rattle.query_solutions.specs.declared.found.Found.{Found}
+use Rattle.query_model.specs.declared.found.Found.{Found}
 use Rattle.bgp_eval.specs.declared.fault.EvalFault.{EvalFault}
 use Rattle.bgp_eval.specs.declared.fault.EvalFault.TheVariants as fault
 

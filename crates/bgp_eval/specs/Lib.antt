@@ -1,6 +1,7 @@
 pub mod Answers
 pub mod Kept
 pub mod Parts
+pub mod Places
 pub mod Shapes
 pub mod Sought
 pub mod Steps

@@ -5,7 +5,7 @@ use Rattle.query_model.specs.declared.query.Slot.{Slot}
 use Rattle.query_model.specs.declared.query.Slot.TheVariants.{Var, Blank, Fixed}
 use Rattle.bgp_eval.specs.declared.part.Part.{Part}
 use Rattle.bgp_eval.specs.declared.part.Part.TheVariants.{Given, Unknown, Unbound}
-use Rattle.query_solutions.specs.Unknowns.{is_same}
+use Rattle.query_model.specs.Unknowns.{is_same}
 
 -- the next number
 abbrev pub next : Option ℕ → Option ℕ

@@ -7,7 +7,7 @@ use Rattle.query_model.specs.declared.query.Slot.{Slot}
 use Rattle.query_model.specs.declared.query.TriplePattern.{TriplePattern}
 use Rattle.bgp_eval.specs.declared.construct.Shape.{Shape}
 use Rattle.bgp_eval.specs.Parts.{part_of, part_value}
-use Rattle.query_solutions.specs.Found.{triple_of}
+use Rattle.query_model.specs.Found.{triple_of}
 
 -- a pattern of a template, with numbers in the place of unknowns
 abbrev pub shape_of : List Slot → TriplePattern → Shape

@@ -6,7 +6,7 @@ use Rattle.rdf_term.specs.Statement.{Statement}
 use Rattle.rdf_term.specs.Order.{row_cmp}
 use Rattle.rdf_term.specs.Sets.{rows_in_order, sorted_set}
 use Rattle.query_model.specs.declared.query.TriplePattern.{TriplePattern}
-use Rattle.query_solutions.specs.Solutions.{solutions}
+use Rattle.query_model.specs.Solutions.{solutions}
 use Rattle.bgp_eval.specs.declared.search.Wanted.{Wanted}
 use Rattle.bgp_eval.specs.Kept.{kept}
 

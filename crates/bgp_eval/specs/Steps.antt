@@ -30,8 +30,8 @@ step_of names views x = record {
   view = if views == 1 then 0 else x.0;
 }
 
-abbrev pub steps_of : List Slot → ℕ → List TriplePattern → List Step
-steps_of names views patterns = map (step_of names views) (enumerate_from 0 patterns)
+abbrev pub search_steps : List Slot → ℕ → List TriplePattern → List Step
+search_steps names views patterns = map (step_of names views) (enumerate_from 0 patterns)
 
 -- the quads among which a step looks
 abbrev pub quads_of : List (List Statement) → Step → List Statement

@@ -1,7 +1,7 @@
 ghost use Rattle.std.specs.Prelude.{◌≡◌, map, replicate, Some, None, IfOk, IsErrOf};
 ghost use Rattle.query_model.specs.declared.query.Query.TheVariants.{Select as ASelect, Ask as AAsk, Construct as AConstruct};
-ghost use Rattle.query_solutions.specs.Unknowns.{unknowns};
-ghost use Rattle.query_solutions.specs.Found.{cut_rows, found};
+ghost use Rattle.query_model.specs.Unknowns.{unknowns};
+ghost use Rattle.query_model.specs.Found.{cut_rows, found};
 ghost use Rattle.query_model.specs.declared.query.Slot.TheVariants as slot;
 ghost use Rattle.bgp_eval.specs.Answers.{Answers};
 ghost use Rattle.bgp_eval.specs.Parts.{part_of};
@@ -12,18 +12,17 @@ use crate::fault::EvalFault;
 use crate::part::Part;
 use crate::plan::planned;
 use crate::search::{Kept, Wanted, search};
-use crate::step::steps_of;
+use crate::step::search_steps;
 use crate::unknowns::{Unknowns, unknowns_of};
-use query_model::{Cut, Names1, Query, Table, TriplePattern};
-use query_solutions::{Found, each_solution_once};
-use rdf_term::{Duplicate, Memory, Row, Rows, Scan, Text};
+use query_model::{Cut, Found, Names1, Query, Table, TriplePattern, each_solution_once};
+use rdf_term::{Duplicate, Memory, Rows, Scan, Term, Text};
 use std::alloc::Global;
 
 /// A row in which nothing is bound.
-fn unbound(alloc: Global, unknowns: usize) -> Result<Row, Memory>
-    ensures { IfOk result (λ row. row ≡ replicate unknowns None) }
+fn unbound(alloc: Global, unknowns: usize) -> Result<Vec<Option<Term>>, Memory>
+    ensures { IfOk result (λ row. row.items ≡ replicate unknowns None) }
 {
-    let mut row = Row::new(alloc);
+    let mut row = Vec::new(alloc);
     for _ in 0..unknowns {
         row.push(None)?;
     }
@@ -42,11 +41,11 @@ fn sought<V: Scan>(
     ensures { IfOk result (λ rows. IsSought wanted.now group.now (map V.content views.now) rows) }
 {
     each_solution_once();
-    let steps = steps_of(alloc, names, views.len(), group)?;
+    let steps = search_steps(alloc, names, views.len(), group)?;
     let plan = planned(alloc, steps, names.len())?;
-    let start = unbound(alloc, names.len())?;
+    let mut row = unbound(alloc, names.len())?;
     let mut rows = Rows::new(alloc);
-    search(alloc, views, wanted, plan.as_slice(), &start, &mut rows)?;
+    search(alloc, views, wanted, plan.as_slice(), &mut row, &mut rows)?;
     Ok(rows)
 }
 

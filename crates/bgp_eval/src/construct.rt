@@ -2,7 +2,7 @@ ghost use Rattle.std.specs.Prelude.{◌≡◌, ◌++◌, map, IfOk, OnOk};
 ghost use Rattle.std.specs.List.{flat_map, filter_map};
 ghost use Rattle.std.specs.Option.{option_to_list};
 ghost use Rattle.rdf_term.specs.Sets.{in_order};
-ghost use Rattle.query_solutions.specs.Found.{made_of, triple_of};
+ghost use Rattle.query_model.specs.Found.{made_of, triple_of};
 ghost use Rattle.bgp_eval.specs.Shapes.{shape_of, triple_in, triples_in};
 
 use crate::part::Part;
@@ -30,7 +30,7 @@ fn triple_of(s: Option<Term>, p: Option<Term>, o: Option<Term>) -> Option<Quad>
 }
 
 impl Shape {
-    fn triple(&self, alloc: Global, row: &Row) -> Result<Option<Quad>, Memory>
+    fn triple(&self, alloc: Global, row: &[Option<Term>]) -> Result<Option<Quad>, Memory>
         ensures { IfOk result (λ triple. triple ≡ triple_in row.now self.now) }
     {
         Ok(triple_of(
@@ -71,7 +71,12 @@ fn add(quads: &mut Quads, quad: Option<Quad>) -> Result<(), Memory>
 }
 
 /// Adds the triples that a row makes of a template.
-fn add_triples(alloc: Global, shapes: &[Shape], row: &Row, quads: &mut Quads) -> Result<(), Memory>
+fn add_triples(
+    alloc: Global,
+    shapes: &[Shape],
+    row: &[Option<Term>],
+    quads: &mut Quads,
+) -> Result<(), Memory>
     ensures { OnOk result (quads.new ≡ quads.old ++ triples_in shapes.now row.now) }
 {
     for shape in shapes {
@@ -93,7 +98,7 @@ pub fn constructed(
     let shapes = shapes(alloc, names, template)?;
     let mut quads = Quads::new(alloc);
     for row in rows {
-        add_triples(alloc, shapes.as_slice(), row, &mut quads)?;
+        add_triples(alloc, shapes.as_slice(), row.as_slice(), &mut quads)?;
     }
     quads.into_set()
 }

@@ -5,7 +5,7 @@ use rdf_term::Memory;
 use thiserror::Error;
 
 /// Why a query has no answer.
-#[derive(Debug, Drop, Error)]
+#[derive(Clone, Copy, Debug, PartialEq, Eq, Error)]
 pub enum EvalFault {
     /// There are more solutions than were allowed.
     #[error("too many rows")]

@@ -28,10 +28,10 @@ pub fn numbered(number: Option<usize>) -> Part
 }
 
 /// The value at a place of a row, where it is bound.
-fn value_at(row: &Row, number: usize) -> Option<&Term>
+fn value_at(row: &[Option<Term>], number: usize) -> Option<&Term>
     ensures { option_copied result ≡ part_value row.now (Part.Unknown number) }
 {
-    match row.at(number) {
+    match row.get(number) {
         Some(Some(term)) => Some(term),
         Some(None) => None,
         None => None,
@@ -40,7 +40,7 @@ fn value_at(row: &Row, number: usize) -> Option<&Term>
 
 impl Part {
     /// The value in a row, where there is one.
-    pub fn value<'a>(&'a self, row: &'a Row) -> Option<&'a Term>
+    pub fn value<'a>(&'a self, row: &'a [Option<Term>]) -> Option<&'a Term>
         ensures { option_copied result ≡ part_value row.now self.now }
     {
         match self {
@@ -51,7 +51,7 @@ impl Part {
     }
 
     /// A copy of that value.
-    pub fn copied(&self, alloc: Global, row: &Row) -> Result<Option<Term>, Memory>
+    pub fn copied(&self, alloc: Global, row: &[Option<Term>]) -> Result<Option<Term>, Memory>
         ensures { IfOk result (λ value. value ≡ part_value row.now self.now) }
     {
         match self.value(row) {
@@ -62,7 +62,7 @@ impl Part {
 }
 
 /// The values of these parts in a row.
-pub fn columns(alloc: Global, parts: &[Part], row: &Row) -> Result<Row, Memory>
+pub fn columns(alloc: Global, parts: &[Part], row: &[Option<Term>]) -> Result<Row, Memory>
     ensures { IfOk result (λ it. it ≡ columns parts.now row.now) }
 {
     let mut values = Row::new(alloc);

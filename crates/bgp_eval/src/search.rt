@@ -1,13 +1,15 @@
 ghost use Rattle.std.specs.Prelude.{◌≡◌, ◌≤◌, ◌+◌, [], ◌∷◌, ◌++◌, length, map, filter, take, nat_lt, IfOk, OnOk};
 ghost use Rattle.bgp_eval.specs.Ways.{candidates, counts, is_one_triple, is_repeated, next_row, ways};
 ghost use Rattle.rdf_term.specs.Matching.{matches};
+ghost use Rattle.rdf_term.specs.Sets.{in_order};
 ghost use Rattle.bgp_eval.specs.Steps.{pattern_of};
 ghost use Rattle.bgp_eval.specs.Kept.{kept};
+ghost use Rattle.bgp_eval.specs.Places.{IsTried};
 
 use crate::part::{Part, columns};
-use crate::row::extended;
+use crate::row::{Places, extend};
 use crate::step::{Reach, Step};
-use rdf_term::{Duplicate, Memory, Quad, Quads, Row, Rows, Scan};
+use rdf_term::{Duplicate, Memory, Quad, Quads, Row, Rows, Scan, Term};
 use std::alloc::Global;
 
 /// What is kept of a solution.
@@ -27,6 +29,17 @@ pub struct Wanted {
     pub most: u64,
 }
 
+/// A copy of all values of a row.
+fn whole(alloc: Global, row: &[Option<Term>]) -> Result<Row, Memory>
+    ensures { IfOk result (λ it. it ≡ row.now) }
+{
+    let mut values = Row::new(alloc);
+    for value in row {
+        values.push(value.copy(alloc)?)?;
+    }
+    Ok(values)
+}
+
 impl Wanted {
     /// Whether these are more than asked for.
     pub fn has_enough(&self, found: &Rows) -> bool
@@ -35,31 +48,42 @@ impl Wanted {
         self.most < found.len() as u64
     }
 
-    fn kept(&self, alloc: Global, row: &Row) -> Result<Row, Memory>
+    fn kept(&self, alloc: Global, row: &[Option<Term>]) -> Result<Row, Memory>
         ensures { IfOk result (λ it. it ≡ kept self.now.kept row.now) }
     {
         match &self.kept {
-            Kept::Whole => row.copy(alloc),
+            Kept::Whole => whole(alloc, row),
             Kept::Columns(parts) => columns(alloc, parts.as_slice(), row),
         }
     }
 }
 
-/// The quads of a view that may go on from a row.
-fn scanned<V: Scan>(alloc: Global, view: &V, step: &Step, row: &Row) -> Result<Quads, Memory>
-    ensures { IfOk result (λ quads. quads ≡ filter (matches (pattern_of row.now step.now)) (V.content view.now)) }
+/// The quads of a view that may go on from a row, in order, each once: as the scan gives them.
+#[tactic(auto, using(crate::proofs::SearchLemmas::already_in_order))]
+fn scanned<V: Scan>(
+    alloc: Global,
+    view: &V,
+    step: &Step,
+    row: &[Option<Term>],
+) -> Result<Quads, Memory>
+    ensures { IfOk result (λ quads. quads ≡ in_order (filter (matches (pattern_of row.now step.now)) (V.content view.now))) }
 {
     let pattern = step.pattern(alloc, row)?;
     view.scan(alloc, &pattern)
 }
 
 /// The quads that may go on from a row, in order, each once.
-fn candidates<V: Scan>(alloc: Global, views: &[V], step: &Step, row: &Row) -> Result<Quads, Memory>
+fn candidates<V: Scan>(
+    alloc: Global,
+    views: &[V],
+    step: &Step,
+    row: &[Option<Term>],
+) -> Result<Quads, Memory>
     ensures { IfOk result (λ quads. quads ≡ candidates (map V.content views.now) step.now row.now) }
 {
     match views.get(step.view) {
         None => Ok(Quads::new(alloc)),
-        Some(view) => scanned(alloc, view, step, row)?.into_set(),
+        Some(view) => scanned(alloc, view, step, row),
     }
 }
 
@@ -89,25 +113,31 @@ fn counts(reach: &Reach, quad: &Quad, behind: &[Quad]) -> bool
     }
 }
 
-/// The row that a quad makes of one, where it counts and fits the step.
-fn next_row(
+/// Makes a row the one that a quad makes of it, where it counts and fits the step, and gives the places
+/// that were bound. Where it doesn't, the row stays as it was.
+fn tried(
     alloc: Global,
-    row: &Row,
+    row: &mut Vec<Option<Term>>,
     step: &Step,
     quad: &Quad,
     behind: &[Quad],
-) -> Result<Option<Row>, Memory>
-    ensures { IfOk result (λ it. it ≡ next_row row.now step.now quad.now behind.now) }
+) -> Result<Option<Places>, Memory>
+    ensures { IfOk result (λ it. IsTried it (next_row row.old.items step.now quad.now behind.now) row.old.items row.new.items) }
 {
     if counts(&step.reach, quad, behind) {
-        extended(alloc, row, step, quad)
+        extend(alloc, row, step, quad)
     } else {
         Ok(None)
     }
 }
 
 /// Adds what is kept of a row, unless there are enough.
-fn add_kept(alloc: Global, wanted: &Wanted, row: &Row, found: &mut Rows) -> Result<(), Memory>
+fn add_kept(
+    alloc: Global,
+    wanted: &Wanted,
+    row: &[Option<Term>],
+    found: &mut Rows,
+) -> Result<(), Memory>
     requires { length found.old ≤ wanted.now.most + 1 }
     ensures { OnOk result (found.new ≡ take (wanted.now.most + 1) (found.old ++ kept wanted.now.kept row.now ∷ [])) }
 {
@@ -119,29 +149,32 @@ fn add_kept(alloc: Global, wanted: &Wanted, row: &Row, found: &mut Rows) -> Resu
 
 /// Adds what is kept of the solutions that the steps make of a row, until there are enough.
 ///
-/// The depth of the recursion is the number of steps.
+/// The row is bound in place, and each binding is taken back once what it led to is found: the row is
+/// at the end what it was. The depth of the recursion is the number of steps.
 pub fn search<V: Scan>(
     alloc: Global,
     views: &[V],
     wanted: &Wanted,
     steps: &[Step],
-    row: &Row,
+    row: &mut Vec<Option<Term>>,
     found: &mut Rows,
 ) -> Result<(), Memory>
     requires { length found.old ≤ wanted.now.most + 1 }
-    ensures { OnOk result (found.new ≡ take (wanted.now.most + 1) (found.old ++ map (kept wanted.now.kept) (ways (map V.content views.now) steps.now row.now))) }
+    ensures found { OnOk result (found.new ≡ take (wanted.now.most + 1) (found.old ++ map (kept wanted.now.kept) (ways (map V.content views.now) steps.now row.old.items))) }
+    ensures row { OnOk result (row.new.items ≡ row.old.items) }
 {
     match steps.split_first() {
-        None => add_kept(alloc, wanted, row, found),
+        None => add_kept(alloc, wanted, row.as_slice(), found),
         Some((step, rest)) => {
-            let quads = candidates(alloc, views, step, row)?;
+            let quads = candidates(alloc, views, step, row.as_slice())?;
             let mut left = quads.as_slice();
             while let Some((quad, behind)) = left.split_first() {
                 if wanted.has_enough(found) {
                     return Ok(());
                 }
-                if let Some(next) = next_row(alloc, row, step, quad, behind)? {
-                    search(alloc, views, wanted, rest, &next, found)?;
+                if let Some(places) = tried(alloc, row, step, quad, behind)? {
+                    search(alloc, views, wanted, rest, row, found)?;
+                    places.take_back(row);
                 }
                 left = behind;
             }

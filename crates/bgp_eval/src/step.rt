@@ -1,11 +1,11 @@
 ghost use Rattle.std.specs.Prelude.{◌≡◌, ℕ, IfOk};
 ghost use Rattle.std.specs.Option.{option_copied};
-ghost use Rattle.bgp_eval.specs.Steps.{named_pick, pattern_of, reach_of, reach_pick, step_of, steps_of};
+ghost use Rattle.bgp_eval.specs.Steps.{named_pick, pattern_of, reach_of, reach_pick, step_of, search_steps};
 
 use crate::part::Part;
 use crate::unknowns::Unknowns;
 use query_model::{Scope, TriplePattern};
-use rdf_term::{Duplicate, Graph, GraphPick, Memory, Pattern, Row, Term};
+use rdf_term::{Duplicate, Graph, GraphPick, Memory, Pattern, Term};
 use std::alloc::Global;
 
 /// The graphs in which a step looks.
@@ -38,7 +38,7 @@ fn named_pick(name: Option<Term>) -> GraphPick
 }
 
 impl Reach {
-    fn pick(&self, alloc: Global, row: &Row) -> Result<GraphPick, Memory>
+    fn pick(&self, alloc: Global, row: &[Option<Term>]) -> Result<GraphPick, Memory>
         ensures { IfOk result (λ pick. pick ≡ reach_pick row.now self.now) }
     {
         Ok(match self {
@@ -50,7 +50,7 @@ impl Reach {
 
 impl Step {
     /// The pattern of the quads that may go on from a row.
-    pub fn pattern(&self, alloc: Global, row: &Row) -> Result<Pattern, Memory>
+    pub fn pattern(&self, alloc: Global, row: &[Option<Term>]) -> Result<Pattern, Memory>
         ensures { IfOk result (λ pattern. pattern ≡ pattern_of row.now self.now) }
     {
         Ok(Pattern {
@@ -91,13 +91,13 @@ fn step_of(
 }
 
 /// The steps of these patterns, where there are so many views: one for all of them, or one for each.
-pub fn steps_of(
+pub fn search_steps(
     alloc: Global,
     names: &Unknowns,
     views: usize,
     patterns: &[TriplePattern],
 ) -> Result<Vec<Step>, Memory>
-    ensures { IfOk result (λ steps. steps.items ≡ steps_of names.now views patterns.now) }
+    ensures { IfOk result (λ steps. steps.items ≡ search_steps names.now views patterns.now) }
 {
     let mut steps = Vec::new(alloc);
     for (number, pattern) in patterns.iter().enumerate() {

@@ -1,7 +1,7 @@
 ghost use Rattle.std.specs.Prelude.{◌≡◌, [], length, fold, IfOk, OnOk};
 ghost use Rattle.std.specs.List.{flat_map};
 ghost use Rattle.bgp_eval.specs.Parts.{number_in, part_of};
-ghost use Rattle.query_solutions.specs.Unknowns.{scope_unknown, standing_in, unknown_in, unknowns, with_unknown};
+ghost use Rattle.query_model.specs.Unknowns.{scope_unknown, standing_in, unknown_in, unknowns, with_unknown};
 
 use crate::part::{Part, numbered};
 use query_model::{Scope, Slot, TriplePattern};
@@ -153,7 +153,7 @@ impl Unknowns {
 }
 
 /// The unknowns of these patterns.
-#[tactic(auto, unfolding(query_solutions::specs::Unknowns::unknowns))]
+#[tactic(auto, unfolding(query_model::specs::Unknowns::unknowns))]
 pub fn unknowns_of(alloc: Global, patterns: &[TriplePattern]) -> Result<Unknowns, Memory>
     ensures { IfOk result (λ names. names ≡ unknowns patterns.now) }
 {

@@ -95,6 +95,12 @@ impl Duplicate for TriplePattern {
     }
 }
 
+impl Duplicate for Cut {
+    fn copy(&self, _alloc: Global) -> Result<Cut, Memory> {
+        Ok(*self)
+    }
+}
+
 impl Duplicate for Query {
     fn copy(&self, alloc: Global) -> Result<Query, Memory> {
         Ok(match self {

@@ -6,7 +6,7 @@ use Rattle.query_model.specs.declared.query.Query.TheVariants as query
 use Rattle.query_model.specs.declared.query.Slot.TheVariants as slot
 use Rattle.query_model.specs.declared.query.Scope.TheVariants as scope
 use Rattle.query_print.specs.Printed.{printed}
-use Rattle.query_print.specs.WellFormed.{is_label, is_var_name, IsWellFormed}
+use Rattle.query_model.specs.WellFormed.{is_label, is_var_name, IsWellFormed}
 
 -- a string with an escape and a tag, in a named graph
 in_a_graph : printed (query.Ask (record {

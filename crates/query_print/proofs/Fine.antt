@@ -7,7 +7,7 @@ use Rattle.std.specs.Str.{all_scalars, bytes_eq}
 use Rattle.std.proofs.lemmas.Bool.Decides.{nat_tests}
 use Rattle.rdf_term.specs.declared.term.Term.TheVariants as term
 use Rattle.rdf_term.specs.Validity.{is_part, is_short, is_iri_text, is_tag, xsd_string}
-use Rattle.nquads_line.proofs.Steps.{both, split}
+use Rattle.query_print.proofs.Truths.{both, split}
 use Rattle.query_tokens.specs.declared.token.Token.{Token}
 use Rattle.query_tokens.specs.declared.token.Token.TheVariants as token
 use Rattle.query_tokens.specs.declared.token.Number.TheVariants as number
@@ -19,19 +19,19 @@ use Rattle.query_model.specs.declared.query.TriplePattern.{TriplePattern}
 use Rattle.query_model.specs.declared.query.Cut.{Cut as ACut}
 use Rattle.query_model.specs.declared.query.Query.{Query}
 use Rattle.query_model.specs.declared.query.Query.TheVariants as query
-use Rattle.query_text.specs.declared.mode.Role.TheVariants as role
-use Rattle.query_text.specs.declared.fault.Kind.{Kind as Fault}
-use Rattle.query_text.specs.declared.fault.Kind.TheVariants as fault
-use Rattle.query_text.specs.declared.built.Form.{Form}
-use Rattle.query_text.specs.declared.built.Form.TheVariants as form
-use Rattle.query_text.specs.declared.built.Built.{Built}
-use Rattle.query_text.specs.Said.{Said}
-use Rattle.query_text.specs.Classes.{is_label}
-use Rattle.query_text.specs.Grammar.{say, mark, subject, object, Block, Group, block, optional_block, graphs, group, cut, limit, offset, vars, modifier, projection, said}
-use Rattle.query_text.specs.Built.{is_template, slot_refusal, refusal, add, change_last, empty}
-use Rattle.query_text.specs.Queries.{is_fine}
-use Rattle.query_text.specs.Values.{Namespaces, part_refusal, iri_refusal, unless, is_sound_iri, count_in, text_of}
-use Rattle.query_print.specs.WellFormed.{IsSlot, IsVarOrIri, IsLabelFree, IsPattern, IsTemplatePattern, IsLimit, IsCount, IsCut, IsWellFormed}
+use Rattle.query_grammar.specs.declared.mode.Role.TheVariants as role
+use Rattle.query_grammar.specs.declared.fault.Kind.{Kind as Fault}
+use Rattle.query_grammar.specs.declared.fault.Kind.TheVariants as fault
+use Rattle.query_grammar.specs.declared.built.Form.{Form}
+use Rattle.query_grammar.specs.declared.built.Form.TheVariants as form
+use Rattle.query_grammar.specs.declared.built.Built.{Built}
+use Rattle.query_grammar.specs.Said.{Said}
+use Rattle.query_grammar.specs.Classes.{is_label}
+use Rattle.query_grammar.specs.Grammar.{say, mark, subject, object, Block, Group, block, optional_block, graphs, group, cut, limit, offset, vars, modifier, projection, said}
+use Rattle.query_grammar.specs.Built.{is_template, slot_refusal, refusal, add, change_last, empty}
+use Rattle.query_grammar.specs.Queries.{is_fine}
+use Rattle.query_grammar.specs.Values.{Namespaces, part_refusal, iri_refusal, unless, is_sound_iri, count_in, text_of}
+use Rattle.query_model.specs.WellFormed.{IsSlot, IsVarOrIri, IsLabelFree, IsPattern, IsTemplatePattern, IsLimit, IsCount, IsCut, IsWellFormed}
 use Rattle.query_print.proofs.Numbers.{decimal_read}
 use Rattle.query_print.proofs.Trees.{slot_tree, verb_tree, name_tree, before_block, before_group, group_tree, block_tree, limit_tree, offset_tree, cut_tree, modifier_tree, projection_tree, query_tree}
 

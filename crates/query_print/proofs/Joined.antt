@@ -8,7 +8,7 @@ use Rattle.rdf_term.specs.declared.term.Term.TheVariants as term
 use Rattle.rdf_term.specs.Canonical.{quoted}
 use Rattle.rdf_term.specs.Classes.{is_iri_char}
 use Rattle.rdf_term.specs.Validity.{is_part, is_iri_text, is_tag, has_scheme, xsd_string}
-use Rattle.nquads_line.proofs.Steps.{split}
+use Rattle.query_print.proofs.Truths.{split}
 use Rattle.query_tokens.specs.declared.token.Token.{Token}
 use Rattle.query_tokens.specs.declared.token.Token.TheVariants as token
 use Rattle.query_tokens.specs.declared.token.Number.TheVariants as number
@@ -21,12 +21,12 @@ use Rattle.query_model.specs.declared.query.TriplePattern.{TriplePattern}
 use Rattle.query_model.specs.declared.query.Cut.{Cut as ACut}
 use Rattle.query_model.specs.declared.query.Query.{Query}
 use Rattle.query_model.specs.declared.query.Query.TheVariants as query
-use Rattle.query_text.specs.declared.mode.Role.TheVariants as role
-use Rattle.query_text.specs.Said.{Said}
-use Rattle.query_text.specs.Queries.{tokens}
-use Rattle.query_text.specs.Grammar.{say, mark, SlotTree, Word, Literal, Bare, Tagged, Typed, subject, object, Group, optional_block, graphs, group, limit, offset, cut, vars, modifier, projection, said}
+use Rattle.query_grammar.specs.declared.mode.Role.TheVariants as role
+use Rattle.query_grammar.specs.Said.{Said}
+use Rattle.query_grammar.specs.Queries.{tokens}
+use Rattle.query_grammar.specs.Grammar.{say, mark, SlotTree, Word, Literal, Bare, Tagged, Typed, subject, object, Group, optional_block, graphs, group, limit, offset, cut, vars, modifier, projection, said}
 use Rattle.query_print.specs.Printed.{var_text, slot_text, triple_words, in_scope, pattern_words, group_words, projection_words, distinct_words, limit_words, offset_words, cut_words, spaced, printed}
-use Rattle.query_print.specs.WellFormed.{is_var_name, is_label, IsVarName, IsSlot, IsVarOrIri, IsPattern, IsTemplatePattern, IsLimit, IsCount, IsCut, IsWellFormed}
+use Rattle.query_model.specs.WellFormed.{is_var_name, is_label, IsVarName, IsSlot, IsVarOrIri, IsPattern, IsTemplatePattern, IsLimit, IsCount, IsCut, IsWellFormed}
 use Rattle.query_print.proofs.Lexed.{Lexes, is_end, nothing_lexes, space_lexes}
 use Rattle.query_print.proofs.Spelled.{var_lexes, label_lexes, tag_lexes, iri_lexes, string_lexes, end_of_string, carets_lex, word_lexes, mark_lexes, digits_lex}
 use Rattle.query_print.proofs.Numbers.{decimal_digits, decimal_some}

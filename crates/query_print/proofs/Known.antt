@@ -1,11 +1,12 @@
 -- What a token of a text of Unicode characters holds.
-use Rattle.std.proofs.Common.{◌≡◌, ℕ, Bool, true, false, ◌==◌, ◌&&◌, if◌then◌else◌, List, [], ◌∷◌, ◌++◌, refl, sym, subst, codes, inl, inr, Option, Some, None, encode_utf8_all}
+use Rattle.std.proofs.Common.{◌≡◌, ℕ, Bool, true, false, ◌==◌, ◌&&◌, if◌then◌else◌, List, [], ◌∷◌, ◌++◌, refl, ◌∙◌, sym, subst, codes, inl, inr, Option, Some, None, encode_utf8_all}
 use Rattle.std.specs.List.{list_all, AllByRecursion}
 use Rattle.std.specs.Str.{all_scalars, bytes_eq}
 use lib.Utf8.{scalar}
 use Rattle.rdf_term.specs.Classes.{is_letter, is_one_of}
+use Rattle.rdf_term.specs.TagLaws.{is_tag-automaton}
 use Rattle.rdf_term.specs.Validity.{is_tag, is_tag_from}
-use Rattle.nquads_line.proofs.Steps.{both, split, or_left, or_right}
+use Rattle.query_print.proofs.Truths.{both, split, or_left, or_right}
 use Rattle.query_tokens.specs.declared.token.Placed.{Placed}
 use Rattle.query_tokens.specs.declared.token.Token.{Token}
 use Rattle.query_tokens.specs.declared.token.Token.TheVariants as token
@@ -16,8 +17,8 @@ use Rattle.query_tokens.specs.Lexemes
 use Rattle.query_tokens.specs.Lexemes.{In, chars, optional, Ends, ends, Prefix, prefix, LocalPiece, local_piece, local_value, local_pieces, local_values, LocalEnds, Local, local, local_ends, local_ends_value, Hex, Piece, piece, pieces, meaning, meanings, short_meaning, TagPart, tag_parts, numeral, Lexeme, Word, Name, Between, DoubleQuotes, SingleQuotes, Var, Label, Tag, Number, Mark, Carets, spelling, value, mark_of, name_value, quoted_value}
 use Rattle.query_tokens.specs.Tokens.{AreTokens, behind_space, is_blank, is_line_end}
 use Rattle.query_tokens.specs.Words.{is_word, is_left_out, word_of}
-use Rattle.query_text.specs.Answers.{tokens_of}
-use Rattle.query_print.specs.WellFormed.{IsVarName, is_var_name, is_label, is_label_rest}
+use Rattle.query_grammar.specs.Answers.{tokens_of}
+use Rattle.query_model.specs.WellFormed.{IsVarName, is_var_name, is_label, is_label_rest}
 
 -- a token's text is one of Unicode characters, and a name, a label and a tag are of their grammar
 abbrev pub IsGood : Token → Type 0
@@ -196,7 +197,7 @@ lexeme_good (Label c e) h =
 lexeme_good (Tag c cs ps) h =
     let rest = chars cs (tag_parts ps) in
     both (all_scalars (c.char ∷ rest)) (is_tag (c.char ∷ rest)) (tail 64 (c.char ∷ rest) h)
-    (or_left (is_letter c.char && is_tag_from true is_letter rest) _
+    (is_tag-automaton (c.char ∷ rest) ∙ or_left (is_letter c.char && is_tag_from true is_letter rest) _
     (both (is_letter c.char) (is_tag_from true is_letter rest) c.fits (tag_front is_letter cs (tag_parts ps) (tag_back is_letter ps))))
 lexeme_good (Number s n) h = h
 lexeme_good (Mark m) h = mark_good m.char

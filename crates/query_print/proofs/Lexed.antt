@@ -6,7 +6,7 @@ use Rattle.query_tokens.specs.declared.token.Token.{Token}
 use Rattle.query_tokens.specs.Laws.{PartedTokens, is_parted}
 use Rattle.query_tokens.specs.Lexemes.{Lexeme, spelling, value}
 use Rattle.query_tokens.specs.Tokens.{IsFirst, AreTokens, from_token, byte_count}
-use Rattle.query_text.specs.Answers.{tokens_of}
+use Rattle.query_grammar.specs.Answers.{tokens_of}
 
 -- The text has these tokens, wherever it stands in another one.
 abbrev pub Lexes : List ℕ → List Token → Type 0

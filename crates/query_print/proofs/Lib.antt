@@ -13,4 +13,5 @@ pub mod SlotLemmas
 pub mod Spelled
 pub mod States
 pub mod Trees
+pub mod Truths
 pub mod WordLemmas

@@ -8,10 +8,10 @@ use Rattle.std.proofs.lemmas.Bool.Decides.{nat_tests}
 use Rattle.std.proofs.lemmas.Fmt.{digits_decimal, digits_value-decimal, length-decimal-le, decimal_nonempty, IsAscii-decimal}
 use Rattle.std.proofs.lemmas.Str.{encodes-IsAscii}
 use Rattle.std.proofs.lemmas.Str.Parse.{IsNumeralModel, numerals_by_value}
-use Rattle.nquads_line.proofs.Steps.{both, split}
+use Rattle.query_print.proofs.Truths.{both, split}
 use Rattle.rdf_term.specs.Classes.{is_digit}
-use Rattle.query_text.specs.Values.{is_count, count_of}
-use Rattle.query_print.specs.WellFormed.{IsCount}
+use Rattle.query_grammar.specs.Values.{is_count, count_of}
+use Rattle.query_model.specs.WellFormed.{IsCount}
 
 -- texts of digits are numerals
 pub own : IsNumeralModel (λ ds. list_all is_ascii_digit ds ≡ true) (digits_value 10)

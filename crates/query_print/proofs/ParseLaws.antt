@@ -11,22 +11,22 @@ use Rattle.query_model.specs.declared.query.Slot.TheVariants as slot
 use Rattle.query_model.specs.declared.query.Scope.{Scope}
 use Rattle.query_model.specs.declared.query.Scope.TheVariants as scope
 use Rattle.query_model.specs.declared.query.TriplePattern.{TriplePattern}
-use Rattle.query_text.specs.declared.mode.Role.TheVariants as role
-use Rattle.query_text.specs.declared.built.Form.{Form}
-use Rattle.query_text.specs.declared.built.Form.TheVariants as form
-use Rattle.query_text.specs.declared.built.Built.{Built}
-use Rattle.query_text.specs.Said.{Said}
-use Rattle.query_text.specs.Built.{is_template, refusal, add, query_as, query_of, empty}
-use Rattle.query_text.specs.Grammar
-use Rattle.query_text.specs.Grammar.{say, mark, optional, SlotTree, Word, Literal, Bare, Tagged, Typed, subject, object, more_objects, Part, part, Same, more_parts, same, Block, more_same, block, optional_block, GraphTree, Group, inside, graph, graphs, group, Cut, Cuts, Turned, limit, offset, cut, Modifier, Projection, modifier, vars, projection, Kind, kind, prefixes, said}
-use Rattle.query_text.specs.Names.{with_slot, with_scope, with_pattern, standing}
-use Rattle.query_text.specs.Queries.{built}
-use Rattle.query_text.specs.Values.{Namespaces, declare, text_of}
-use Rattle.query_text.proofs.MeaningLaws.{tree_reads}
+use Rattle.query_grammar.specs.declared.mode.Role.TheVariants as role
+use Rattle.query_grammar.specs.declared.built.Form.{Form}
+use Rattle.query_grammar.specs.declared.built.Form.TheVariants as form
+use Rattle.query_grammar.specs.declared.built.Built.{Built}
+use Rattle.query_grammar.specs.Said.{Said}
+use Rattle.query_grammar.specs.Built.{is_template, refusal, add, query_as, query_of, empty}
+use Rattle.query_grammar.specs.Grammar
+use Rattle.query_grammar.specs.Grammar.{say, mark, optional, SlotTree, Word, Literal, Bare, Tagged, Typed, subject, object, more_objects, Part, part, Same, more_parts, same, Block, more_same, block, optional_block, GraphTree, Group, inside, graph, graphs, group, Cut, Cuts, Turned, limit, offset, cut, Modifier, Projection, modifier, vars, projection, Kind, kind, prefixes, said}
+use Rattle.query_grammar.specs.Names.{with_slot, with_scope, with_pattern, standing}
+use Rattle.query_grammar.specs.Queries.{built}
+use Rattle.query_grammar.specs.Values.{Namespaces, declare, text_of}
+use Rattle.query_grammar.proofs.MeaningLaws.{tree_reads}
 use Rattle.query_print.specs.Laws.{ParsedAreWellFormed}
-use Rattle.query_print.specs.WellFormed.{IsVarName, IsSlot, IsScope, IsPattern, AreProjected, ArePatterns, IsWellFormed}
+use Rattle.query_model.specs.WellFormed.{IsVarName, IsSlot, IsScope, IsPattern, AreProjected, ArePatterns, IsWellFormed}
 use Rattle.query_print.proofs.Known.{IsGood, tokens_good}
-use Rattle.query_print.proofs.NameLemmas.{once_more}
+use Rattle.query_print.proofs.NameLemmas.{once_more, stands_none}
 use Rattle.query_print.proofs.Scalars.{a_slot}
 use Rattle.query_print.proofs.SlotLemmas.{AreNamespaces, declared_namespaces}
 use Rattle.query_print.proofs.States.{Sound, sound_of, State, Goes, Patterns, Projected, word_begins, string_begins, subject_state, subject_tag, subject_type, verb_state, forget, object_begins, object_state, object_tag, object_type, name_state, outside_state, template_state, names_more, var_state, all_state, limit_state, offset_state}
@@ -44,7 +44,7 @@ maybe f v w true t rest k = plain f v w t rest k
 subject_tagged : (f : Form) (v w : Bool) (t : List ℕ) (rest : List Said) → Goes f v w rest → Goes f v w (say role.SubjectTag (token.Tag t) rest)
 subject_tagged f v w t rest k = λ b g s. k (add b role.SubjectTag (token.Tag t)) (subject_tag f v w b t g s.1 s.0) s.2
 
-subject_typed : (f : Form) (v w : Bool) (i : Grammar.In Rattle.query_text.specs.Classes.is_iri) (rest : List Said) → Goes f v w rest
+subject_typed : (f : Form) (v w : Bool) (i : Grammar.In Rattle.query_grammar.specs.Classes.is_iri) (rest : List Said) → Goes f v w rest
     → Goes f v w (say role.SubjectType i.token rest)
 subject_typed f v w i rest k = λ b g s. k (add b role.SubjectType i.token) (subject_type f v w b i.token g i.fits s.1 s.0) s.2
 
@@ -65,7 +65,7 @@ subject_goes f v w (Literal t (Typed i)) rest k =
 object_tagged : (f : Form) (v w : Bool) (t : List ℕ) (rest : List Said) → Goes f v w rest → Goes f v w (say role.ObjectTag (token.Tag t) rest)
 object_tagged f v w t rest k = λ b g s. k (add b role.ObjectTag (token.Tag t)) (object_tag f v w b t g s.1 s.0) s.2
 
-object_typed : (f : Form) (v w : Bool) (i : Grammar.In Rattle.query_text.specs.Classes.is_iri) (rest : List Said) → Goes f v w rest
+object_typed : (f : Form) (v w : Bool) (i : Grammar.In Rattle.query_grammar.specs.Classes.is_iri) (rest : List Said) → Goes f v w rest
     → Goes f v w (say role.ObjectType i.token rest)
 object_typed f v w i rest k = λ b g s. k (add b role.ObjectType i.token) (object_type f v w b i.token g i.fits s.1 s.0) s.2
 
@@ -215,7 +215,7 @@ projected_known : (all : Bool) (names : List (List ℕ)) (xs : List TriplePatter
     → AreProjected (if all then standing xs else names) xs
 unfolding standing
 projected_known true names xs h k =
-    let w = group_names xs [] h no_names in record { each = w.each; once = w.once; none = λ e. e }
+    let w = group_names xs [] h no_names in record { each = w.each; once = w.once; none = λ e. stands_none xs e }
 projected_known false names xs h k = record { each = k.each; once = k.once; none = λ e. absurd (k.some refl refl e) }
 
 -- the ends of queries

@@ -6,17 +6,17 @@ use Rattle.query_tokens.specs.Laws.{PartedTokens}
 use Rattle.query_model.specs.declared.query.TriplePattern.{TriplePattern}
 use Rattle.query_model.specs.declared.query.Query.{Query}
 use Rattle.query_model.specs.declared.query.Query.TheVariants as query
-use Rattle.query_text.specs.Grammar.{said}
-use Rattle.query_text.specs.Meaning.{query_in, is_distinct, projected_in, group_in, cut_in}
-use Rattle.query_text.specs.Queries.{IsQuery, tokens}
-use Rattle.query_text.specs.QueryText.{AreTokensOf}
+use Rattle.query_grammar.specs.Grammar.{said}
+use Rattle.query_grammar.specs.Meaning.{query_in, is_distinct, projected_in, group_in, cut_in}
+use Rattle.query_grammar.specs.Queries.{IsQuery, tokens}
+use Rattle.query_grammar.specs.QueryText.{AreTokensOf}
 use Rattle.query_print.specs.Printed.{printed}
-use Rattle.query_print.specs.WellFormed.{AreProjected, IsWellFormed}
+use Rattle.query_model.specs.WellFormed.{AreProjected, IsWellFormed}
 use Rattle.query_print.specs.Laws.{PrintedAreReadAgain, WellFormedWhereRead}
 use Rattle.query_print.proofs.Trees.{group_tree, cut_tree, modifier_tree, projection_tree, query_tree, group_means, template_means, cut_means}
 use Rattle.query_print.proofs.Fine.{query_fine}
 use Rattle.query_print.proofs.Joined.{query_says}
-use Rattle.query_print.proofs.NameLemmas.{firsts-once}
+use Rattle.query_print.proofs.NameLemmas.{firsts-once, none_stands}
 use Rattle.query_print.proofs.ParseLaws.{parsed_known}
 use Rattle.query_print.proofs.Scalars.{printed_scalars}
 
@@ -25,7 +25,7 @@ distinct_means true = refl
 distinct_means false = refl
 
 projection_means : (vs : List (List ℕ)) (g : List TriplePattern) → AreProjected vs g → projected_in (projection_tree vs) g ≡ vs
-projection_means [] g h = h.none refl
+projection_means [] g h = none_stands g (h.none refl)
 projection_means (v ∷ vs) g h = firsts-once (v ∷ vs) h.once
 
 -- the tree of a well-formed query is that query

@@ -1,16 +1,16 @@
 -- What is printed of a well-formed query is a text of Unicode characters.
-use Rattle.std.proofs.Common.{◌≡◌, ◌<◌, ◌^◌, ℕ, zero, suc, Bool, true, false, List, [], ◌∷◌, ◌++◌, refl, subst, map, codes, arith, Option, Some, None}
+use Rattle.std.proofs.Common.{◌≡◌, ◌<◌, ◌^◌, ◌==◌, ◌&&◌, ℕ, zero, suc, Bool, true, false, not, if◌then◌else◌, List, [], ◌∷◌, ◌++◌, refl, subst, map, codes, arith, Option, Some, None}
 use Rattle.std.specs.List.{flat_map, AllByRecursion}
 use Rattle.std.specs.Fmt.{decimal}
-use Rattle.std.specs.Str.{all_scalars}
+use Rattle.std.specs.Str.{all_scalars, bytes_eq}
 use Rattle.std.proofs.lemmas.Fmt.{IsAscii-decimal}
 use Rattle.std.proofs.lemmas.Str.{IsUtf8-from_ascii, chars-IsAscii, scalars-chars}
 use lib.Utf8.{scalar}
 use Rattle.rdf_term.specs.declared.term.Term.{Term}
 use Rattle.rdf_term.specs.declared.term.Term.TheVariants as term
-use Rattle.rdf_term.specs.Validity.{IsValidTerm, is_part, is_short}
-use Rattle.nquads_line.proofs.Steps.{both, split}
-use Rattle.nquads_line.proofs.WrittenLemmas.{term_scalars}
+use Rattle.rdf_term.specs.Canonical.{escaped, quoted, term_text}
+use Rattle.rdf_term.specs.Validity.{IsValidTerm, is_iri_text, is_label as is_term_label, is_part, is_short, is_tag, xsd_string}
+use Rattle.query_print.proofs.Truths.{both, split}
 use Rattle.query_model.specs.declared.query.Slot.{Slot}
 use Rattle.query_model.specs.declared.query.Slot.TheVariants as slot
 use Rattle.query_model.specs.declared.query.Scope.{Scope}
@@ -20,7 +20,7 @@ use Rattle.query_model.specs.declared.query.Cut.{Cut}
 use Rattle.query_model.specs.declared.query.Query.{Query}
 use Rattle.query_model.specs.declared.query.Query.TheVariants as query
 use Rattle.query_print.specs.Printed.{var_text, slot_text, triple_words, in_scope, pattern_words, group_words, projection_words, distinct_words, limit_words, offset_words, cut_words, spaced, printed}
-use Rattle.query_print.specs.WellFormed.{is_var_name, is_label, IsVarName, IsFixed, IsSlot, IsVarOrIri, IsScope, IsPattern, IsTemplatePattern, IsLimit, IsCount, IsCut, IsWellFormed}
+use Rattle.query_model.specs.WellFormed.{is_var_name, is_label, IsVarName, IsFixed, IsSlot, IsVarOrIri, IsScope, IsPattern, IsTemplatePattern, IsLimit, IsCount, IsCut, IsWellFormed}
 use Rattle.query_print.proofs.PutLemmas.{spaced-append}
 
 pub scalars_append : (a b : List ℕ) → all_scalars a ≡ true → all_scalars b ≡ true → all_scalars (a ++ b) ≡ true
@@ -28,6 +28,41 @@ scalars_append [] b h k = k
 scalars_append (c ∷ a) b h k =
     let parts = split (scalar c) (all_scalars a) h in
     both (scalar c) (all_scalars (a ++ b)) parts.0 (scalars_append a b parts.1 k)
+
+escaped_scalars_at : (a b d e : Bool) (c : ℕ) → scalar c ≡ true
+    → all_scalars (if a then codes "\\\"" else if b then codes "\\\\" else if d then codes "\\n" else if e then codes "\\r" else c ∷ []) ≡ true
+escaped_scalars_at true b d e c h = refl
+escaped_scalars_at false true d e c h = refl
+escaped_scalars_at false false true e c h = refl
+escaped_scalars_at false false false true c h = refl
+escaped_scalars_at false false false false c h = both (scalar c) true h refl
+
+escaped_scalars : (cs : List ℕ) → all_scalars cs ≡ true → all_scalars (flat_map escaped cs) ≡ true
+escaped_scalars [] h = refl
+escaped_scalars (c ∷ cs) h =
+    let parts = split (scalar c) (all_scalars cs) h in
+    scalars_append (escaped c) (flat_map escaped cs) (escaped_scalars_at (c == 34) (c == 92) (c == 10) (c == 13) c parts.0) (escaped_scalars cs parts.1)
+
+part_scalars : (part : List ℕ) → is_part part ≡ true → all_scalars part ≡ true
+part_scalars part h = (split (all_scalars part) (is_short part) h).0
+
+quoted_scalars : (cs : List ℕ) → all_scalars cs ≡ true → all_scalars (quoted cs) ≡ true
+quoted_scalars cs h = scalars_append (flat_map escaped cs) (codes "\"") (escaped_scalars cs h) refl
+
+-- so is the canonical text of a valid term
+term_scalars : (t : Term) → IsValidTerm t → all_scalars (term_text t) ≡ true
+term_scalars (term.Iri iri) h = scalars_append iri (codes ">") (part_scalars iri (split (is_part iri) (is_iri_text iri) h).0) refl
+term_scalars (term.Blank label) h = part_scalars label (split (is_part label) (is_term_label label) h).0
+term_scalars (term.Plain text) h = quoted_scalars text (part_scalars text h)
+term_scalars (term.Tagged text tag) h =
+    let parts = split (is_part text) (is_part tag) (split (is_part text && is_part tag) (is_tag tag) h).0 in
+    scalars_append (quoted text ++ codes "@") tag (scalars_append (quoted text) (codes "@") (quoted_scalars text (part_scalars text parts.0)) refl) (part_scalars tag parts.1)
+term_scalars (term.Typed text d) h =
+    let a = split (is_part text && is_part d && is_iri_text d) (not (bytes_eq d xsd_string)) h in
+    let b = split (is_part text && is_part d) (is_iri_text d) a.0 in
+    let parts = split (is_part text) (is_part d) b.0 in
+    scalars_append (quoted text ++ codes "^^<" ++ d) (codes ">")
+    (scalars_append (quoted text ++ codes "^^<") d (scalars_append (quoted text) (codes "^^<") (quoted_scalars text (part_scalars text parts.0)) refl) (part_scalars d parts.1)) refl
 
 -- each of the words is such a text
 abbrev Sound : List (List ℕ) → Type 0

@@ -10,18 +10,18 @@ use Rattle.std.specs.BTreeMap.{insert_entry, is_at}
 use Rattle.rdf_term.specs.declared.term.Term.TheVariants as term
 use Rattle.rdf_term.specs.TextOrder.{text_cmp}
 use Rattle.rdf_term.specs.Validity.{is_part, is_short, is_iri_text, is_tag, xsd_string}
-use Rattle.nquads_line.proofs.Steps.{both, split}
+use Rattle.query_print.proofs.Truths.{both, split}
 use Rattle.query_tokens.specs.declared.token.Token.{Token}
 use Rattle.query_tokens.specs.declared.token.Token.TheVariants as token
 use Rattle.query_tokens.specs.declared.token.Number.{Number}
 use Rattle.query_tokens.specs.declared.token.Number.TheVariants as number
 use Rattle.query_model.specs.declared.query.Slot.{Slot}
 use Rattle.query_model.specs.declared.query.Slot.TheVariants as slot
-use Rattle.query_text.specs.declared.fault.Kind.{Kind as Fault}
-use Rattle.query_text.specs.declared.fault.Kind.TheVariants as fault
-use Rattle.query_text.specs.Classes.{is_iri, is_verb, is_graph_name, is_word, is_label}
-use Rattle.query_text.specs.Values.{Namespaces, declare, namespace, named, number_type, rdf_type, xsd_boolean, iri_slot, slot_of, typed, with_tag, with_type, is_sound_iri, unless, iri_refusal, part_refusal}
-use Rattle.query_print.specs.WellFormed.{is_label as is_label_text, IsFixed, IsSlot, IsVarOrIri, IsLabelFree}
+use Rattle.query_grammar.specs.declared.fault.Kind.{Kind as Fault}
+use Rattle.query_grammar.specs.declared.fault.Kind.TheVariants as fault
+use Rattle.query_grammar.specs.Classes.{is_iri, is_verb, is_graph_name, is_word, is_label}
+use Rattle.query_grammar.specs.Values.{Namespaces, declare, namespace, named, number_type, rdf_type, xsd_boolean, iri_slot, slot_of, typed, with_tag, with_type, is_sound_iri, unless, iri_refusal, part_refusal}
+use Rattle.query_model.specs.WellFormed.{is_label as is_label_text, IsFixed, IsSlot, IsVarOrIri, IsLabelFree}
 use Rattle.query_print.proofs.Known.{IsGood}
 use Rattle.query_print.proofs.Scalars.{scalars_append}
 

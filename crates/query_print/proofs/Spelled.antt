@@ -4,8 +4,9 @@ use Rattle.std.proofs.lemmas.Bool.Decides.{nat_tests}
 use Rattle.std.specs.List.{list_all, flat_map}
 use Rattle.rdf_term.specs.Classes.{is_letter, is_digit, is_iri_char, is_string_char, is_one_of}
 use Rattle.rdf_term.specs.Canonical.{escaped, quoted}
+use Rattle.rdf_term.specs.TagLaws.{is_tag-automaton}
 use Rattle.rdf_term.specs.Validity.{is_tag, is_tag_from}
-use Rattle.nquads_line.proofs.Steps.{split, either, equal, itself}
+use Rattle.query_print.proofs.Truths.{split, either, equal, itself}
 use Rattle.query_tokens.specs.declared.token.Token.{Token}
 use Rattle.query_tokens.specs.declared.token.Token.TheVariants as token
 use Rattle.query_tokens.specs.declared.token.Number.TheVariants as number
@@ -16,7 +17,7 @@ use Rattle.query_tokens.specs.Laws.{PartedTokens, is_parted}
 use Rattle.query_tokens.specs.Lexemes.{In, chars, Ends, ends, Piece, Raw, Short, pieces, meanings, TagPart, tag_parts, Whole, Lexeme, Word, Between, Var, Label, Tag, Number, Mark, Carets, mark_of}
 use Rattle.query_tokens.specs.Tokens.{from_token, behind_space, is_blank}
 use Rattle.query_tokens.specs.Words.{word_of}
-use Rattle.query_print.specs.WellFormed.{is_var_name, is_label, is_label_rest}
+use Rattle.query_model.specs.WellFormed.{is_var_name, is_label, is_label_rest}
 use Rattle.query_print.proofs.Lexed.{Lexes, is_end, lexeme_lexes}
 
 -- characters of a class
@@ -112,10 +113,10 @@ tag_tail part (c ∷ d ∷ ds) h =
           | inr k ↦ (let z : false ≡ true = (split (d == 45) false (split (d == 45 && false) (is_tag_from false is_alphanumeric ds) k).0).1 in cc)
         ]
 
-pub tag_lexes : PartedTokens → (tag rest : List ℕ) (ts : List Token) → is_tag tag ≡ true → is_end rest ≡ true → Lexes rest ts
+run_lexes : PartedTokens → (tag rest : List ℕ) (ts : List Token) → is_tag_from false is_letter tag ≡ true → is_end rest ≡ true → Lexes rest ts
     → Lexes ((codes "@" ++ tag) ++ rest) (token.Tag tag ∷ ts)
-tag_lexes parted [] rest ts h e k = cc
-tag_lexes parted (c ∷ cs) rest ts h e k =
+run_lexes parted [] rest ts h e k = cc
+run_lexes parted (c ∷ cs) rest ts h e k =
     elim (either (is_letter c && is_tag_from true is_letter cs) (c == 45 && false && is_tag_from false is_alphanumeric cs) h) [
       | inl p ↦ (let parts = split (is_letter c) (is_tag_from true is_letter cs) p in
           let more = tag_tail is_letter cs parts.1 in
@@ -125,6 +126,10 @@ tag_lexes parted (c ∷ cs) rest ts h e k =
           (lexeme_lexes parted l (64 ∷ c ∷ (cs ++ rest)) rest ts (ap (λ x. 64 ∷ c ∷ (x ++ rest)) more.2) refl (ended l rest (λ d ds q. q) e) k))
       | inr p ↦ (let z : false ≡ true = (split (c == 45) false (split (c == 45 && false) (is_tag_from false is_alphanumeric cs) p).0).1 in cc)
     ]
+
+pub tag_lexes : PartedTokens → (tag rest : List ℕ) (ts : List Token) → is_tag tag ≡ true → is_end rest ≡ true → Lexes rest ts
+    → Lexes ((codes "@" ++ tag) ++ rest) (token.Tag tag ∷ ts)
+tag_lexes parted tag rest ts h e k = run_lexes parted tag rest ts (sym (is_tag-automaton tag) ∙ h) e k
 
 -- IRIs
 

@@ -9,25 +9,25 @@ use Rattle.std.proofs.lemmas.Bool.Decides.{nat_tests}
 use Rattle.std.proofs.lemmas.Str.Parse.{digits_value_short}
 use Rattle.rdf_term.specs.EachOnce.{EachOnce}
 use Rattle.rdf_term.specs.Validity.{is_part, is_short, is_tag}
-use Rattle.nquads_line.proofs.Steps.{both, split}
+use Rattle.query_print.proofs.Truths.{both, split}
 use Rattle.query_tokens.specs.declared.token.Token.{Token}
 use Rattle.query_tokens.specs.declared.token.Token.TheVariants as token
 use Rattle.query_model.specs.declared.query.Slot.{Slot}
 use Rattle.query_model.specs.declared.query.Scope.{Scope}
 use Rattle.query_model.specs.declared.query.Scope.TheVariants as scope
 use Rattle.query_model.specs.declared.query.TriplePattern.{TriplePattern}
-use Rattle.query_text.specs.declared.mode.Role.TheVariants as role
-use Rattle.query_text.specs.declared.fault.Kind.TheVariants as fault
-use Rattle.query_text.specs.declared.built.Form.{Form}
-use Rattle.query_text.specs.declared.built.Form.TheVariants as form
-use Rattle.query_text.specs.declared.built.Built.{Built}
-use Rattle.query_text.specs.Said.{Said}
-use Rattle.query_text.specs.Classes.{is_verb, is_graph_name, is_iri, is_word, is_label}
-use Rattle.query_text.specs.Built.{is_template, slot_refusal, refusal, add, change_last, object_tagged, object_typed, cut_of, query_of}
-use Rattle.query_text.specs.Names.{with_name, is_among}
-use Rattle.query_text.specs.Queries.{tokens, is_fine, built}
-use Rattle.query_text.specs.Values.{Namespaces, slot_of, part_refusal, is_count, count_of, count_in, text_of}
-use Rattle.query_print.specs.WellFormed.{IsVarName, IsSlot, IsVarOrIri, IsScope, IsLabelFree, IsPattern, IsTemplatePattern, AreTemplate, IsCount, IsLimit, IsCut, IsWellFormed}
+use Rattle.query_grammar.specs.declared.mode.Role.TheVariants as role
+use Rattle.query_grammar.specs.declared.fault.Kind.TheVariants as fault
+use Rattle.query_grammar.specs.declared.built.Form.{Form}
+use Rattle.query_grammar.specs.declared.built.Form.TheVariants as form
+use Rattle.query_grammar.specs.declared.built.Built.{Built}
+use Rattle.query_grammar.specs.Said.{Said}
+use Rattle.query_grammar.specs.Classes.{is_verb, is_graph_name, is_iri, is_word, is_label}
+use Rattle.query_grammar.specs.Built.{is_template, slot_refusal, refusal, add, change_last, object_tagged, object_typed, cut_of, query_of}
+use Rattle.query_grammar.specs.Names.{with_name, is_among}
+use Rattle.query_grammar.specs.Queries.{tokens, is_fine, built}
+use Rattle.query_grammar.specs.Values.{Namespaces, slot_of, part_refusal, is_count, count_of, count_in, text_of}
+use Rattle.query_model.specs.WellFormed.{IsVarName, IsSlot, IsVarOrIri, IsScope, IsLabelFree, IsPattern, IsTemplatePattern, AreTemplate, IsCount, IsLimit, IsCut, IsWellFormed}
 use Rattle.query_print.proofs.Fine.{length_change}
 use Rattle.query_print.proofs.Known.{IsGood}
 use Rattle.query_print.proofs.NameLemmas.{once_more}

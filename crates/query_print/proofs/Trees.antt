@@ -6,7 +6,7 @@ use Rattle.std.specs.Str.{bytes_eq}
 use Rattle.std.specs.Option.{unwrap_or}
 use Rattle.rdf_term.specs.declared.term.Term.TheVariants as term
 use Rattle.rdf_term.specs.Validity.{xsd_string}
-use Rattle.nquads_line.proofs.Steps.{split}
+use Rattle.query_print.proofs.Truths.{split}
 use Rattle.query_tokens.specs.declared.token.Token.TheVariants as token
 use Rattle.query_model.specs.declared.query.Slot.{Slot}
 use Rattle.query_model.specs.declared.query.Slot.TheVariants as slot
@@ -16,11 +16,11 @@ use Rattle.query_model.specs.declared.query.TriplePattern.{TriplePattern}
 use Rattle.query_model.specs.declared.query.Cut.{Cut as ACut}
 use Rattle.query_model.specs.declared.query.Query.{Query}
 use Rattle.query_model.specs.declared.query.Query.TheVariants as query
-use Rattle.query_text.specs.Classes.{is_verb, is_graph_name}
-use Rattle.query_text.specs.Grammar.{In, SlotTree, Word, Literal, Bare, Tagged, Typed, Same, Block, Group, Cut, Cuts, Modifier, Distinct, Projection, All, Vars, Kind, Select, Construct, Ask, Tree}
-use Rattle.query_text.specs.Meaning.{slot_in, block_in, optional_block_in, group_in, graph_in, limit_in, offset_in, cut_in}
-use Rattle.query_text.specs.Values.{slot_of, typed}
-use Rattle.query_print.specs.WellFormed.{IsSlot, IsVarOrIri, IsPattern, IsTemplatePattern, IsLimit, IsCount, IsCut}
+use Rattle.query_grammar.specs.Classes.{is_verb, is_graph_name}
+use Rattle.query_grammar.specs.Grammar.{In, SlotTree, Word, Literal, Bare, Tagged, Typed, Same, Block, Group, Cut, Cuts, Modifier, Distinct, Projection, All, Vars, Kind, Select, Construct, Ask, Tree}
+use Rattle.query_grammar.specs.Meaning.{slot_in, block_in, optional_block_in, group_in, graph_in, limit_in, offset_in, cut_in}
+use Rattle.query_grammar.specs.Values.{slot_of, typed}
+use Rattle.query_model.specs.WellFormed.{IsSlot, IsVarOrIri, IsPattern, IsTemplatePattern, IsLimit, IsCount, IsCut}
 use Rattle.query_print.proofs.Numbers.{decimal_read}
 
 abbrev pub slot_tree : Slot → SlotTree

@@ -2,9 +2,9 @@
 use Rattle.std.specs.Prelude.{◌↔◌, ℕ, List, encode_utf8_all}
 use Rattle.std.specs.Str.{IsUtf8}
 use Rattle.query_model.specs.declared.query.Query.{Query}
-use Rattle.query_text.specs.QueryText.{IsQueryText}
+use Rattle.query_grammar.specs.QueryText.{IsQueryText}
 use Rattle.query_print.specs.Printed.{printed}
-use Rattle.query_print.specs.WellFormed.{IsWellFormed}
+use Rattle.query_model.specs.WellFormed.{IsWellFormed}
 
 -- the text of a well-formed query is read as that query
 abbrev pub PrintedAreReadAgain : Type 0

@@ -1,12 +1,10 @@
 //! Prints queries of the profile of SPARQL 1.1 that this product answers (SPARQL 1.1, section 19.8),
-//! so that `query_text` reads the same query again.
+//! so that `query_grammar` reads the same query again.
 #![tactic(auto)]
 
 mod laws;
 mod query;
 mod term;
-#[cfg(test)]
-mod tests;
 mod word;
 
 pub use laws::{

@@ -1,12 +1,5 @@
-pub mod Answers
-pub mod Built
-pub mod Classes
-pub mod Grammar
-pub mod Machine
-pub mod Meaning
-pub mod Names
-pub mod Queries
-pub mod QueryText
-pub mod Runs
-pub mod Said
-pub mod Values
+pub use Rattle.query_grammar.specs.Answers
+pub use Rattle.query_grammar.specs.QueryText
+pub use Rattle.query_print.specs.Laws
+pub use Rattle.query_print.specs.Printed
+pub use Rattle.query_model.specs.WellFormed

@@ -3,10 +3,15 @@ pub mod Back
 pub mod Best
 pub mod Cases
 pub mod Examples
+pub mod Exist
 pub mod Fore
+pub mod FrontLemmas
 pub mod Longest
+pub mod NextLemmas
 pub mod PlaceLemmas
 pub mod Prefixes
 pub mod ReadLemmas
+pub mod SpaceLemmas
 pub mod Tails
+pub mod TextLemmas
 pub mod Unique

@@ -192,9 +192,6 @@ is_read text z e =
       counted = w.3;
     }
 
-pub in_text : (text : List ℕ) (z : ℕ × Kind) → longest state.Start text ≡ Some z → z.0 ≤ length text
-in_text text z e = let w = longest_found text state.Start z e in let l : length text ≡ length (spelling w.0) + length w.1 = ap length w.2 ∙ length-append (spelling w.0) w.1 in let m = w.3 in omega arith
-
 -- the token of a kind without a text has none
 pub no_text : (k : Kind) (t u : Texts) → has_text k ≡ false → token_of k t ≡ token_of k u
 no_text kinds.Word t u h = cc

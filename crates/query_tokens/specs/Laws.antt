@@ -3,7 +3,11 @@ use Rattle.std.specs.Prelude.{◌≡◌, ℕ, List, [], ◌∷◌, ◌++◌, Boo
 use Rattle.query_tokens.specs.declared.token.Placed.{Placed}
 use Rattle.query_tokens.specs.Classes.{closing}
 use Rattle.query_tokens.specs.Lexemes.{Lexeme, Between, Carets, spelling}
-use Rattle.query_tokens.specs.Tokens.{IsFirst, AreTokens}
+use Rattle.query_tokens.specs.Tokens.{IsFirst, AreTokens, Left, AreTokensLeft}
+
+-- whatever is left of a text has a list of tokens
+abbrev pub EachHasTokens : Type 0
+EachHasTokens = (left : Left) → (ps : List Placed) × AreTokensLeft left ps
 
 -- a text has at most one list of tokens
 abbrev pub OneTokenList : Type 0

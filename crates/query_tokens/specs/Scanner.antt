@@ -1,10 +1,11 @@
 -- The machine that reads a token: where each character leads, where a token may end, and what its texts are.
-use Rattle.std.specs.Prelude.{◌≡◌, ◌<◌, drop, ℕ, suc, ◌+◌, ◌-◌, ◌*◌, List, [], ◌∷◌, ◌++◌, Bool, true, false, ◌==◌, ◌&&◌, nat_le, if◌then◌else◌, Option, Some, None, encode_utf8_all}
+use Rattle.std.specs.Prelude.{◌≡◌, ◌<◌, drop, ℕ, suc, ◌+◌, ◌-◌, ◌*◌, List, [], ◌∷◌, ◌++◌, Bool, true, false, ◌==◌, ◌&&◌, nat_le, not, if◌then◌else◌, Option, Some, None, encode_utf8_all}
 use Rattle.std.specs.Char.{digit_value}
 use lib.Utf8.{scalar}
 use Rattle.rdf_term.specs.Classes.{is_digit, is_letter}
 use Rattle.query_tokens.specs.Classes.{is_base, is_var_char, is_name_char, is_label_start, is_local_start, is_local_char, is_local_escape, is_hex_digit, is_alphanumeric, is_exponent_mark, is_sign, closing, is_raw, is_short_escape}
 use Rattle.query_tokens.specs.Lexemes.{short_meaning}
+use Rattle.query_tokens.specs.Tokens.{is_blank, is_line_end}
 use Rattle.query_tokens.specs.Words.{word_of}
 use Rattle.query_tokens.specs.declared.token.Token.{Token}
 use Rattle.query_tokens.specs.declared.token.Token.TheVariants as token
@@ -306,6 +307,12 @@ add (part.First c) t = record { first = c ∷ t.first; second = t.second }
 add (part.Second c) t = record { first = t.first; second = c ∷ t.second }
 add part.Nothing t = t
 
+-- and behind them
+abbrev pub put : Part → Texts → Texts
+put (part.First c) t = record { first = t.first ++ c ∷ []; second = t.second }
+put (part.Second c) t = record { first = t.first; second = t.second ++ c ∷ [] }
+put part.Nothing t = t
+
 -- the texts of characters that the machine takes
 abbrev pub emitting : State → ℕ → (State → Texts) → Option State → Texts
 emitting s c f None = no_texts
@@ -375,3 +382,8 @@ is_prefix _ = false
 -- how far prefixes were searched in vain, once the machine stopped in this state behind so many characters
 abbrev pub searched_to : Bool → State → ℕ → ℕ → ℕ
 searched_to named s count searched = if named && is_prefix s then count else searched
+
+-- whether a comment goes on behind a character of white space or a comment; none where the character is neither's
+abbrev pub in_space : Bool → ℕ → Option Bool
+in_space true c = Some (not (is_line_end c))
+in_space false c = if is_blank c then Some false else if c == 35 then Some true else None

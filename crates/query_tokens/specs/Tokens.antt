@@ -1,5 +1,5 @@
 -- The tokens of a text.
-use Rattle.std.specs.Prelude.{◌≡◌, ◌≢◌, ◌≤◌, ◌+◌, ◌⊎◌, ℕ, Bool, true, false, ◌==◌, List, [], ◌∷◌, ◌++◌, length, drop, if◌then◌else◌, codes, encode_utf8_all}
+use Rattle.std.specs.Prelude.{◌≡◌, ◌≢◌, ◌≤◌, ◌+◌, ◌⊎◌, ℕ, Bool, true, false, ◌==◌, List, [], ◌∷◌, ◌++◌, length, drop, Option, Some, None, if◌then◌else◌, codes, encode_utf8_all}
 use Rattle.rdf_term.specs.Classes.{is_one_of}
 use Rattle.query_tokens.specs.declared.token.Placed.{Placed}
 use Rattle.query_tokens.specs.declared.token.Token.{Token}
@@ -51,7 +51,7 @@ pub record EndsBadly (here : List ℕ) (x : Placed) (xs : List Placed) : Type 0 
   pub bad : x.token ≡ token.Bad
   pub last : xs ≡ []
 
--- These are the tokens of what is left of a text of so many bytes: each is the longest one that begins behind the white space
+-- These are the tokens of the characters that are left of a text of so many bytes: each is the longest one that begins behind the white space
 -- and comments, with its value and the number of bytes before it.
 abbrev pub AreTokens : ℕ → List ℕ → List Placed → Type 0
 AreTokens size text [] = from_token text ≡ []
@@ -59,3 +59,17 @@ AreTokens size text (x ∷ xs) =
     (x.start + byte_count (from_token text) ≡ size)
     × (EndsBadly (from_token text) x xs
     ⊎ ((lexeme : Lexeme) × (rest : List ℕ) × IsFirst (from_token text) lexeme rest × (x.token ≡ value lexeme) × AreTokens size rest xs))
+
+-- What is left of a text that is read: how many bytes were read, and the characters behind them.
+pub record Left : Type 0 where
+  pub start : ℕ
+  pub text : List ℕ
+
+-- These are the tokens of what is left.
+abbrev pub AreTokensLeft : Left → List Placed → Type 0
+AreTokensLeft left ps = AreTokens (left.start + byte_count left.text) left.text ps
+
+-- The first token of what is left, and what is left then: with the token in front, its tokens are those that were left before.
+abbrev pub IsFirstOf : Left → Option Placed → Left → Type 0
+IsFirstOf left None rest = AreTokensLeft left []
+IsFirstOf left (Some p) rest = (more : List Placed) → AreTokensLeft rest more → AreTokensLeft left (p ∷ more)

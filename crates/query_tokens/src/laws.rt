@@ -1,4 +1,9 @@
-ghost use Rattle.query_tokens.specs.Laws.{OneTokenList, PartedTokens};
+ghost use Rattle.query_tokens.specs.Laws.{EachHasTokens, OneTokenList, PartedTokens};
+
+/// Whatever is left of a text has a list of tokens.
+pub fn each_has_tokens()
+    ensures { EachHasTokens }
+{}
 
 /// A text has at most one list of tokens.
 pub fn one_token_list()

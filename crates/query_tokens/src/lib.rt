@@ -1,8 +1,8 @@
 //! The tokens of the query profile of SPARQL 1.1 (section 19.8): words, marks, IRIs, prefixed names,
 //! variables, labels, strings, language tags and numbers.
 //!
-//! [`tokens`] gives each token of a text with its value and the byte at which it begins. It is the
-//! longest token that begins there, behind white space and comments.
+//! [`Tokens`] reads the tokens of a text one at a time, each with its value and the byte at which it
+//! begins. It is the longest token that begins there, behind white space and comments.
 //!
 //! What the profile has otherwise than SPARQL 1.1: `\u` and `\U` are escapes of IRIs and strings
 //! alone, and where they name no Unicode scalar value there is no such token; three quotes in
@@ -11,18 +11,16 @@
 
 mod class;
 mod emit;
+mod front;
 mod kind;
 mod laws;
-mod place;
 mod read;
 mod scan;
 mod space;
 mod state;
-#[cfg(test)]
-mod tests;
 mod token;
 mod word;
 
-pub use laws::{one_token_list, parted_tokens};
-pub use read::tokens;
-pub use token::{Number, Placed, Token, Tokens};
+pub use laws::{each_has_tokens, one_token_list, parted_tokens};
+pub use read::Tokens;
+pub use token::{Number, Placed, Token};

@@ -1,10 +1,12 @@
-ghost use Rattle.std.specs.Prelude.{◌≡◌, IfOk, MatchOption};
-ghost use Rattle.query_tokens.specs.Scanner.{longest, better, emitted, token_of, has_text, IsSearched, is_named, is_prefix, searched_to};
+ghost use Rattle.std.specs.Prelude.{◌≡◌, IfOk, MatchOption, OnOk, take};
+ghost use Rattle.std.specs.Str.{chars};
+ghost use Rattle.query_tokens.specs.Scanner.{longest, better, emitted, token_of, has_text, IsSearched, is_named, is_prefix, put, searched_to};
 ghost use Rattle.query_tokens.specs.Tokens.{IsRead, BeginsNone};
 ghost use Rattle.query_tokens.specs.declared.state.State.TheVariants as state;
 
 use crate::Token;
 use crate::emit::{Part, emit};
+use crate::front::first_char;
 use crate::kind::Kind;
 use crate::state::{State, accepts, next};
 use crate::word::word;
@@ -50,16 +52,18 @@ fn searched_to(named: bool, state: State, count: usize, searched: usize) -> usiz
 /// Words with dots and dashes between them may be the front of a prefix as far as they go. So that
 /// they aren't searched for its colon from each word again, `searched` says how many characters were
 /// searched in vain, and the answer says how many were by now.
-fn longest(text: &[char], searched: usize) -> (Option<(usize, Kind)>, usize)
-    requires { IsSearched searched text.now }
-    ensures found { result.0 ≡ longest state.Start text.now }
-    ensures searched { IsSearched result.1 text.now }
+fn longest(text: &str, searched: usize) -> (Option<(usize, Kind)>, usize)
+    requires { IsSearched searched (chars text.now) }
+    ensures found { result.0 ≡ longest state.Start (chars text.now) }
+    ensures searched { IsSearched result.1 (chars text.now) }
 {
     let mut state = State::Start;
     let mut best = None;
     let mut named = true;
-    for (i, c) in text.iter().enumerate() {
-        match next(state, *c) {
+    let mut left = text;
+    let mut i = 0usize;
+    while let Some((c, rest)) = first_char(left) {
+        match next(state, c) {
             None => return (best, searched_to(named, state, i, searched)),
             Some(after) => {
                 if is_prefix(after) & (i + 1 < searched) {
@@ -68,29 +72,45 @@ fn longest(text: &[char], searched: usize) -> (Option<(usize, Kind)>, usize)
                 best = better(best, i + 1, accepts(after));
                 named = named & is_named(after);
                 state = after;
+                left = rest;
+                i += 1;
             }
         }
     }
-    (best, searched_to(named, state, text.len(), searched))
+    (best, searched_to(named, state, i, searched))
 }
 
-/// The texts of a token that is spelled so: its own or a prefix, and a local part.
-fn texts(alloc: Global, spelling: &[char]) -> Result<(Text, Text), Memory>
-    ensures { IfOk result (λ t. record { first = t.0; second = t.1 } ≡ emitted state.Start spelling.now) }
+/// Adds what a character adds to the texts of its token.
+fn put(part: Part, first: &mut Text, second: &mut Text) -> Result<(), Memory>
+    ensures { OnOk result (record { first = first.new; second = second.new } ≡ put part (record { first = first.old; second = second.old })) }
+{
+    match part {
+        Part::First(character) => first.push(character),
+        Part::Second(character) => second.push(character),
+        Part::Nothing => Ok(()),
+    }
+}
+
+/// The texts of the token of so many characters: its own or a prefix, and a local part.
+fn texts(alloc: Global, text: &str, count: usize) -> Result<(Text, Text), Memory>
+    ensures { IfOk result (λ t. record { first = t.0; second = t.1 } ≡ emitted state.Start (take count (chars text.now))) }
 {
     let mut state = State::Start;
     let mut first = Text::new(alloc);
     let mut second = Text::new(alloc);
-    for c in spelling {
-        let Some(after) = next(state, *c) else {
+    let mut left = text;
+    let mut to_come = count;
+    while to_come > 0 {
+        let Some((c, rest)) = first_char(left) else {
             return Ok((first, second));
         };
-        match emit(state, after, *c) {
-            Part::First(character) => first.push(character)?,
-            Part::Second(character) => second.push(character)?,
-            Part::Nothing => (),
-        }
+        let Some(after) = next(state, c) else {
+            return Ok((first, second));
+        };
+        put(emit(state, after, c), &mut first, &mut second)?;
         state = after;
+        left = rest;
+        to_come -= 1;
     }
     Ok((first, second))
 }
@@ -133,14 +153,14 @@ fn named(kind: Kind, first: Text, second: Text) -> Token
     }
 }
 
-/// The token of a kind that is spelled so. A mark takes no memory.
-fn token(alloc: Global, kind: Kind, spelling: &[char]) -> Result<Token, Memory>
-    ensures { IfOk result (λ t. t ≡ token_of kind (emitted state.Start spelling.now)) }
+/// The token of a kind that the first characters spell. A mark takes no memory.
+fn token(alloc: Global, kind: Kind, text: &str, count: usize) -> Result<Token, Memory>
+    ensures { IfOk result (λ t. t ≡ token_of kind (emitted state.Start (take count (chars text.now)))) }
 {
     if !has_text(kind) {
         return Ok(named(kind, Text::new(alloc), Text::new(alloc)));
     }
-    let (first, second) = texts(alloc, spelling)?;
+    let (first, second) = texts(alloc, text, count)?;
     Ok(named(kind, first, second))
 }
 
@@ -148,18 +168,18 @@ fn token(alloc: Global, kind: Kind, spelling: &[char]) -> Result<Token, Memory>
 /// many characters were searched for the end of a prefix in vain.
 pub fn first_token(
     alloc: Global,
-    text: &[char],
+    text: &str,
     searched: usize,
 ) -> Result<(Option<(Token, usize)>, usize), Memory>
-    requires { IsSearched searched text.now }
-    ensures first { IfOk result (λ found. MatchOption found.0 (BeginsNone text.now) (λ x. IsRead text.now x.0 x.1)) }
-    ensures searched { IfOk result (λ found. IsSearched found.1 text.now) }
+    requires { IsSearched searched (chars text.now) }
+    ensures first { IfOk result (λ found. MatchOption found.0 (BeginsNone (chars text.now)) (λ x. IsRead (chars text.now) x.0 x.1)) }
+    ensures searched { IfOk result (λ found. IsSearched found.1 (chars text.now)) }
 {
     let (found, searched) = longest(text, searched);
     match found {
         None => Ok((None, searched)),
         Some((count, kind)) => {
-            let token = token(alloc, kind, &text[..count])?;
+            let token = token(alloc, kind, text, count)?;
             Ok((Some((token, count)), searched))
         }
     }

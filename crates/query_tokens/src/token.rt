@@ -1,4 +1,4 @@
-use rdf_term::{Seq, Text};
+use rdf_term::Text;
 
 /// What a number is, by the SPARQL 1.1 grammar's rules.
 #[derive(Clone, Copy, Debug, PartialEq, Eq)]
@@ -78,6 +78,3 @@ pub struct Placed {
     pub token: Token,
     pub start: usize,
 }
-
-/// The tokens of a text, in their order.
-pub type Tokens = Seq<Placed>;

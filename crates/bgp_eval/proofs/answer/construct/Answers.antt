@@ -2,7 +2,7 @@ use Rattle.std.proofs.Common.{◌∙◌, List, Option, ap, map, refl, sym}
 use Rattle.std.specs.List.{filter_map, flat_map}
 use Rattle.rdf_term.specs.declared.term.Term.{Term}
 use Rattle.rdf_term.specs.Sets.{in_order}
-use Rattle.query_solutions.specs.Found.{made_of}
+use Rattle.query_model.specs.Found.{made_of}
 use Rattle.bgp_eval.specs.declared.search.Kept.TheVariants.{Whole}
 use Rattle.bgp_eval.specs.declared.search.Wanted.{Wanted}
 use Rattle.bgp_eval.proofs.AnswerLemmas.{construct-all, construct-many}

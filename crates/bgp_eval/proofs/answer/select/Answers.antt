@@ -1,6 +1,6 @@
 use Rattle.std.proofs.Common.{◌≡◌, ◌∙◌, ℕ, List, map, refl, sym}
 use Rattle.query_model.specs.declared.query.Slot.TheVariants.{Var}
-use Rattle.query_solutions.specs.Unknowns.{unknowns}
+use Rattle.query_model.specs.Unknowns.{unknowns}
 use Rattle.bgp_eval.specs.declared.search.Kept.TheVariants.{Columns}
 use Rattle.bgp_eval.specs.declared.search.Wanted.{Wanted}
 use Rattle.bgp_eval.specs.Parts.{part_of}

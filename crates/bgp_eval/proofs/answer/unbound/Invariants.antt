@@ -2,4 +2,4 @@ use Rattle.std.proofs.Common.{◌≡◌, replicate, None}
 use Rattle.bgp_eval.proofs.answer.unbound.Given as goal
 
 abbrev pub invariant-loop : goal.invariant-loop
-invariant-loop l = l.row ≡ replicate l.counter None
+invariant-loop l = l.row.items ≡ replicate l.counter None

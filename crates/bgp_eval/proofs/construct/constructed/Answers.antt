@@ -4,7 +4,7 @@ use Rattle.std.proofs.lemmas.List.{take_all}
 use Rattle.std.proofs.lemmas.Result.{IfOk-weaker}
 use Rattle.rdf_term.specs.declared.term.Term.{Term}
 use Rattle.rdf_term.specs.Sets.{in_order}
-use Rattle.query_solutions.specs.Found.{made_of}
+use Rattle.query_model.specs.Found.{made_of}
 use Rattle.bgp_eval.specs.Shapes.{triples_in}
 use Rattle.bgp_eval.proofs.ShapeLemmas.{all_triples}
 use Rattle.bgp_eval.proofs.construct.constructed.Goals as goal
@@ -15,4 +15,4 @@ returns c =
     c.loop-row.invariant
     ∙ ap (flat_map (triples_in c.in_ok-shapes.shapes.items)) (take_all c.loop-row.row-index c.args.rows.now (omega arith))
     ∙ all_triples c.args.names.now c.args.template.now c.in_ok-shapes.shapes.items c.args.rows.now c.in_ok-shapes.ensures in
-    IfOk-weaker c.into_set.result _ _ (λ it e. e ∙ ap in_order all) c.into_set.ensures
+    IfOk-weaker c.into_set.result _ _ (λ it e. e ∙ ap in_order all) c.into_set.ensures.value

@@ -1,6 +1,6 @@
 use Rattle.std.proofs.Common.{◌≡◌, ◌∙◌, ◌++◌, ◌∷◌, [], None, ap, refl, sym}
 use Rattle.query_model.specs.declared.query.Slot.TheVariants.{Var, Blank}
-use Rattle.query_solutions.specs.Unknowns.{with_unknown}
+use Rattle.query_model.specs.Unknowns.{with_unknown}
 use Rattle.bgp_eval.specs.Parts.{number_in}
 use Rattle.bgp_eval.proofs.NumberLemmas.{added, no_number, number_of_other, stands, blanks_more}
 use Rattle.bgp_eval.proofs.unknowns.Unknowns.add_blank.Goals as goal

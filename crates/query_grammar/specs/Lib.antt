@@ -1,0 +1,12 @@
+pub mod Answers
+pub mod Built
+pub mod Classes
+pub mod Grammar
+pub mod Machine
+pub mod Meaning
+pub mod Names
+pub mod Queries
+pub mod QueryText
+pub mod Runs
+pub mod Said
+pub mod Values

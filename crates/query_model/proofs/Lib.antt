@@ -1,0 +1,10 @@
+pub mod AssignmentLemmas
+pub mod CountLemmas
+pub mod DependLemmas
+pub mod ElementLemmas
+pub mod Examples
+pub mod FoundLemmas
+pub mod SolutionLemmas
+pub mod UnknownLemmas
+pub mod ValidLemmas
+pub mod WellFormedLemmas

@@ -1,0 +1,5 @@
+use Rattle.query_model.specs.EqualityLaws.{told, scope_decides}
+use Rattle.query_model.proofs.compared.ScopePartialEq.eq.Goals as goal
+
+pub returns-clause-same : goal.returns-clause-same
+returns-clause-same c = told c.is_same.ensures (scope_decides c.args.self.now c.args.other.now)

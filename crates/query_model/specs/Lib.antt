@@ -1,0 +1,11 @@
+pub mod Depends
+pub mod Equality
+pub mod EqualityLaws
+pub mod Found
+pub mod FoundValid
+pub mod Laws
+pub mod Observed
+pub mod Solutions
+pub mod Unknowns
+pub mod WellFormed
+pub mod WellFormedTests

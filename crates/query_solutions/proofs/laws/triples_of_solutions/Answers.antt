@@ -1,5 +1,0 @@
-use Rattle.query_solutions.proofs.FoundLemmas.{triples_of}
-use Rattle.query_solutions.proofs.laws.triples_of_solutions.Goals as goal
-
-pub returns : goal.returns
-returns c = triples_of

@@ -1,5 +1,0 @@
-use Rattle.query_solutions.proofs.FoundLemmas.{truth_of}
-use Rattle.query_solutions.proofs.laws.truth_of_solutions.Goals as goal
-
-pub returns : goal.returns
-returns c = truth_of
