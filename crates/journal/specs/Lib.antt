@@ -1,0 +1,14 @@
+pub mod Alone
+pub mod Committed
+pub mod Conflicts
+pub mod Found
+pub mod Journal
+pub mod Laws
+pub mod Legal
+pub mod LevelLaws
+pub mod Levels
+pub mod Notes
+pub mod Past
+pub mod Replies
+pub mod Serial
+pub mod Views
