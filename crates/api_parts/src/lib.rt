@@ -8,8 +8,6 @@
 mod laws;
 mod selection;
 mod target;
-#[cfg(test)]
-mod tests;
 mod writes;
 
 pub use laws::{one_first_bad, one_selection};

@@ -13,8 +13,6 @@ mod head;
 mod laws;
 mod message;
 mod search;
-#[cfg(test)]
-mod tests;
 mod wire;
 
 pub use fault::FrameFault;

@@ -4,13 +4,13 @@
 mod choice;
 mod form;
 mod laws;
+mod offers;
 mod quality;
 mod range;
 mod specificity;
-#[cfg(test)]
-mod tests;
 mod text;
 
 pub use choice::choose;
 pub use form::Form;
 pub use laws::{most_specific_range, one_range};
+pub use offers::{QUAD_FORMS, TABLE_FORMS, TRUTH_FORMS};

@@ -11,8 +11,6 @@ mod repository;
 mod send;
 mod session;
 mod stdio;
-#[cfg(test)]
-mod tests;
 mod words;
 
 pub use laws::{sessions_are_determined, sessions_join};

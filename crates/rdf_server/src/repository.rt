@@ -9,10 +9,10 @@ ghost use Rattle.rdf_server.specs.Requests.{statements_target};
 
 use api_parts::{Selection, patterns_of};
 use branch::Branch;
-use change_set::{ChangeSet, Changes};
+use change_set::{Change, ChangeSet, Changes};
 use http_frame::Octets;
 use quad_index::{Index, Orders};
-use rdf_term::{Memory, Pattern, Quads, Scan};
+use rdf_term::{GraphPick, Memory, Pattern, Quads, Scan};
 use std::alloc::Global;
 use std::marker::Model;
 
@@ -22,7 +22,7 @@ pub struct Repository {
     alloc: Global,
     target: Octets,
     branch: Branch,
-    /// How many changes stand above the branch's base, and how many quads this has.
+    /// How many changes were made since a base was last looked for, and how many quads the base has.
     changes: usize,
     base: u64,
 }
@@ -51,6 +51,22 @@ fn statements_target(alloc: Global, id: &str) -> Result<Octets, Memory>
 /// that a scan costs what it finds and not what was written, and a quad is moved a few times at most.
 fn are_few(changes: usize, base: u64) -> bool {
     changes as u64 <= 1_000 + base / 8
+}
+
+/// Whether one of the changes removes everything, so that nothing of the base is left.
+fn clear_everything(changes: &Changes) -> bool {
+    changes.as_slice().iter().any(|change| match change {
+        Change::RemoveMatching(pattern) => is_any(pattern),
+        _ => false,
+    })
+}
+
+/// Whether a pattern matches every quad.
+fn is_any(pattern: &Pattern) -> bool {
+    pattern.s.is_none()
+        && pattern.p.is_none()
+        && pattern.o.is_none()
+        && matches!(pattern.c, GraphPick::Any)
 }
 
 /// The quads that match the patterns, one pattern after the other.
@@ -127,23 +143,25 @@ impl Repository {
     {
         push_changes(self.alloc, &mut self.branch, changes)?;
         self.changes = self.changes.saturating_add(changes.len());
-        if !are_few(self.changes, self.base) {
+        let has_dead_base = self.base > 0 && clear_everything(changes);
+        if has_dead_base || !are_few(self.changes, self.base) {
             self.fold();
         }
         Ok(())
     }
 
-    /// Folds the changes into a new base, where memory is found for it.
+    /// Folds the changes into a new base, where memory is found for it. Where none is found, it is
+    /// looked for again after as many more changes.
     fn fold(&mut self)
         ensures { self.new ≡ self.old }
     {
+        self.changes = 0;
         let Ok(base) = self.branch.fold() else {
             return;
         };
         let quads = base.len();
         if let Ok(branch) = Branch::new(self.alloc, base) {
             self.branch = branch;
-            self.changes = 0;
             self.base = quads;
         }
     }

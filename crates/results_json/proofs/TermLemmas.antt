@@ -2,13 +2,11 @@
 use Rattle.std.proofs.Common.{◌≡◌, ◌≢◌, ℕ, List, Bool, true, false, Some, None, refl, sym, ap, ap₂, ◌∙◌, codes, encode_utf8_all, true≢false, inl, inr, ◌&&◌}
 use Rattle.std.specs.Prelude.{not}
 use Rattle.std.specs.Str.{bytes_eq}
-use Rattle.std.proofs.lemmas.Bool.{and_parts}
 use Rattle.std.proofs.lemmas.Slice.Eq.{bytes_eq-Decides}
 use Rattle.std.proofs.lemmas.Str.{encodes_same}
 use Rattle.rdf_term.specs.declared.term.Term.{Term}
 use Rattle.rdf_term.specs.declared.term.Term.TheVariants.{Iri, Blank, Plain, Tagged, Typed}
-use Rattle.rdf_term.specs.Validity.{IsValidTerm, is_part, is_short, is_iri_text, is_tag, xsd_string}
-use Rattle.nquads_line.specs.Grammar.{IsShortTerm}
+use Rattle.rdf_term.specs.Validity.{xsd_string}
 use Rattle.serde_json.specs.Data.{Data, string}
 use Rattle.serde_json.specs.Find.{get}
 use Rattle.results_json.specs.Tables.{HasString, HasText, HasAtMost, IsLiteral, Spells}
@@ -79,25 +77,3 @@ spells_once d (Typed a y) (Blank b) p q = absurd (no_bnode d q.0 p.0)
 spells_once d (Typed a y) (Plain b) p q = absurd (plain_typed d y q.3 p.3 p.4)
 spells_once d (Typed a y) (Tagged b x) p q = absurd (absent_text d (codes "xml:lang") (encode_utf8_all x) p.2 q.2)
 spells_once d (Typed a y) (Typed b x) p q = ap₂ Typed (same_text d (codes "value") a b p.1 q.1) (same_text d (codes "datatype") y x p.3 q.3)
-
--- ---- valid terms are short
-
-part_short : (text : List ℕ) → is_part text ≡ true → is_short text ≡ true
-part_short text e = (and_parts _ _ e).1
-
-front : (a b : Bool) → (a && b) ≡ true → a ≡ true
-front a b e = (and_parts a b e).0
-
-both : (a b : Bool) → a ≡ true → b ≡ true → (a && b) ≡ true
-both true true p q = refl
-both true false p q = absurd (true≢false (sym q))
-both false b p q = absurd (true≢false (sym p))
-
-pub valid_short : (t : Term) → IsValidTerm t → IsShortTerm t
-valid_short (Iri a) v = both _ _ (part_short a (and_parts _ _ v).0) refl
-valid_short (Blank a) v = both _ _ (part_short a (and_parts _ _ v).0) refl
-valid_short (Plain a) v = both _ _ (part_short a v) refl
-valid_short (Tagged a x) v = both _ _ (part_short a (front (is_part a) (is_part x) (front (is_part a && is_part x) (is_tag x) v))) (part_short x (and_parts (is_part a) (is_part x) (front (is_part a && is_part x) (is_tag x) v)).1)
-valid_short (Typed a x) v =
-    let parts = front (is_part a && is_part x) (is_iri_text x) (front (is_part a && is_part x && is_iri_text x) (not (bytes_eq x xsd_string)) v) in
-    both _ _ (part_short a (front (is_part a) (is_part x) parts)) (part_short x (and_parts (is_part a) (is_part x) parts).1)

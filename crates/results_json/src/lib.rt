@@ -14,8 +14,6 @@ mod names;
 mod rows;
 mod table;
 mod term_value;
-#[cfg(test)]
-mod tests;
 mod truth;
 mod writer;
 

@@ -1,16 +1,12 @@
-ghost use Rattle.std.specs.Prelude.{◌≡◌, ◌↔◌, codes, IfOk, IsTrue, MatchOption};
+ghost use Rattle.std.specs.Prelude.{◌≡◌, codes, IfOk, MatchOption};
 ghost use Rattle.rdf_term.specs.declared.term.Term.{Term as SpecTerm};
-ghost use Rattle.rdf_term.specs.Validity.{IsValidTerm};
 ghost use Rattle.serde_json.specs.View.{view};
 ghost use Rattle.results_json.specs.Tables.{HasString, IsLiteral, Spells, IsTermValue};
 
 use crate::member::{Member, at_key};
-use nquads_line::{TermTextFault, one_term_reading, read_term, terms_read_again, write_term};
-use rdf_term::{Bytes, Memory, Term, Text};
+use rdf_term::{Memory, Term, Text, is_xsd_string};
 use serde_json::Value;
 use std::alloc::Global;
-
-const XSD_STRING: &str = "http://www.w3.org/2001/XMLSchema#string";
 
 const LANG_STRING: &str = "http://www.w3.org/1999/02/22-rdf-syntax-ns#langString";
 
@@ -24,7 +20,7 @@ fn literal(alloc: Global, value: &Value, text: &str) -> Result<Option<Term>, Mem
     match (at_key(value, "xml:lang"), at_key(value, "datatype")) {
         (Member::Absent, Member::Absent) => Ok(Some(Term::Plain(text))),
         (Member::Absent, Member::Text(datatype)) => {
-            if datatype == XSD_STRING {
+            if is_xsd_string(datatype) {
                 Ok(Some(Term::Plain(text)))
             } else {
                 Ok(Some(Term::Typed(text, Text::from_chars(alloc, datatype)?)))
@@ -60,22 +56,6 @@ fn spelled(alloc: Global, value: &Value) -> Result<Option<Term>, Memory>
     Ok(None)
 }
 
-/// Whether a term is valid: where its text is read as that term again.
-fn is_valid(alloc: Global, term: &Term) -> Result<bool, Memory>
-    ensures { IfOk result (λ valid. IsTrue valid ↔ IsValidTerm term.now) }
-{
-    one_term_reading();
-    terms_read_again();
-    let mut text = Bytes::new(alloc);
-    write_term(term, &mut text)?;
-    match read_term(alloc, text.as_slice()) {
-        Ok(read) => Ok(read == *term),
-        Err(TermTextFault::Memory) => Err(Memory),
-        Err(TermTextFault::BadTerm) => Ok(false),
-        Err(TermTextFault::TooLong) => Ok(false),
-    }
-}
-
 /// The term that a value is.
 pub fn term_of(alloc: Global, value: &Value) -> Result<Option<Term>, Memory>
     ensures { IfOk result (λ it. MatchOption it ((t : SpecTerm) → IsTermValue (view value.now) t → ⊥) (λ t. IsTermValue (view value.now) t)) }
@@ -83,7 +63,7 @@ pub fn term_of(alloc: Global, value: &Value) -> Result<Option<Term>, Memory>
     let Some(term) = spelled(alloc, value)? else {
         return Ok(None);
     };
-    if is_valid(alloc, &term)? {
+    if term.is_valid() {
         Ok(Some(term))
     } else {
         Ok(None)

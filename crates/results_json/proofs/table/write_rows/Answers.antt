@@ -13,7 +13,7 @@ returns c =
     let columns = named c.in_ok-columns.columns.entries in
     let empty : c.end_object.new.self.before ≡ [] =
     c.end_object.ensures.room.0 ∙ c.put_results.ensures.before ∙ c.put_head.ensures.before ∙ c.begin_object.ensures.room.0 ∙ c.new-out.ensures.before ∙ c.new.ensures.items in
-    c.from_vec.ensures ∙ c.into_inner.ensures.items ∙ ap (λ b. b ++ print c.end_object.new.self.tokens) empty
+    c.from_vec.ensures.items ∙ c.into_inner.ensures.items ∙ ap (λ b. b ++ print c.end_object.new.self.tokens) empty
     ∙ table_written c.args.table.now columns c.begin_object.new.self.tokens c.put_head.new.out.tokens c.put_results.new.out.tokens c.end_object.new.self.tokens
     c.as_slice.ensures.distinct
     (c.in_ok-columns.ensures ∙ ap (columns_from 0) c.as_slice.ensures.value)
