@@ -3,7 +3,7 @@
 use crate::QueryReading;
 use crate::query_tests::{is_fault, printed};
 use QueryReading::{BadAt, Unsupported};
-use query_text::QueryFault;
+use query_grammar::QueryFault;
 use rdf_term::{Memory, Text};
 use std::alloc::Global;
 use std::process::Abort;

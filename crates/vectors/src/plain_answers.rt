@@ -1,8 +1,7 @@
 //! A plain program for the answers of queries: it follows the definition of a solution (SPARQL 1.1,
 //! sections 18.1 and 18.3) to the letter. Each assignment of the terms of the quads to the unknowns
 //! is tried, and each pattern compared with every quad.
-use query_model::{Cut, Names1, Patterns, Query, Scope, Slot, Table, TriplePattern};
-use query_solutions::Found;
+use query_model::{Cut, Found, Names1, Patterns, Query, Scope, Slot, Table, TriplePattern};
 use rdf_term::{Duplicate, Graph, Memory, Quad, Quads, Row, Rows, Term, Text};
 use std::alloc::Global;
 

@@ -5,9 +5,8 @@ use crate::{QUERIES, QUERY_CUTS, QUERY_LISTS, QUERY_TERMS, QueryCase};
 use bgp_eval::{Found, answer_query};
 use nquads::{DataFault, Kind, read_document};
 use quad_index::{Index, Order};
-use query_model::{Query, TriplePattern};
-use query_solutions::steps_of;
-use query_text::parse_query;
+use query_grammar::parse_query;
+use query_model::{Query, TriplePattern, lookups_of};
 use rdf_term::{Memory, Quads};
 use std::alloc::Global;
 use std::process::Abort;
@@ -74,7 +73,7 @@ fn group_of(query: &Query) -> &[TriplePattern] {
 /// program.
 fn answers(rt: &impl Abort, alloc: Global, query: &Query, quads: &Quads, what: &str) {
     let wanted = answer(alloc, query, quads.as_slice()).expect(rt, "memory");
-    for count in [1, steps_of(query)] {
+    for count in [1, lookups_of(query)] {
         let views = views_of(alloc, quads, count).expect(rt, "memory");
         match answer_query(alloc, query, views.as_slice(), u64::MAX) {
             Ok(found) => assert!(rt;

@@ -222,7 +222,22 @@ pub static QUERY_WORDS: &[QueryCase] = &[
     QueryCase {
         what: "three quotation marks behind a whole query",
         text: "ASK {} \"\"\"",
-        gives: Unsupported(7),
+        gives: BadAt(7),
+    },
+    QueryCase {
+        what: "three apostrophes behind a whole query",
+        text: "ASK {} '''",
+        gives: BadAt(7),
+    },
+    QueryCase {
+        what: "three quotation marks in the place of a variable",
+        text: "SELECT \"\"\"",
+        gives: BadAt(7),
+    },
+    QueryCase {
+        what: "three quotation marks at the start",
+        text: "\"\"\"",
+        gives: BadAt(0),
     },
 ];
 

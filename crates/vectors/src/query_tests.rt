@@ -4,8 +4,8 @@ use crate::{
     QUERIES, QUERY_CUTS, QUERY_ENDS, QUERY_FORM_FAULTS, QUERY_LISTS, QUERY_PATTERN_FAULTS,
     QUERY_REFUSALS, QUERY_TERMS, QUERY_TEXT_FAULTS, QUERY_WORDS, QueryCase, QueryReading,
 };
+use query_grammar::{QueryFault, parse_query};
 use query_print::print_query;
-use query_text::{QueryFault, parse_query};
 use rdf_term::Text;
 use std::alloc::Global;
 use std::process::Abort;

@@ -3,7 +3,7 @@ use crate::query_answer_tests::{DATA, index_of, quads_of};
 use bgp_eval::{EvalFault, Found, answer_query};
 use nquads::{Kind, write_quads};
 use quad_index::Index;
-use query_text::parse_query;
+use query_grammar::parse_query;
 use rdf_term::{Bytes, Memory};
 use results_json::write_rows;
 use std::alloc::Global;
