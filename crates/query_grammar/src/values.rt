@@ -1,4 +1,5 @@
 ghost use Rattle.std.specs.Prelude.{◌≡◌, ◌++◌, IsTrue, IfOk};
+ghost use Rattle.query_model.specs.declared.query.Slot.TheVariants as slot;
 ghost use Rattle.std.specs.List.{list_all};
 ghost use Rattle.std.specs.Option.{option_copied};
 ghost use Rattle.std.specs.Char.{is_ascii};
@@ -139,8 +140,22 @@ pub fn with_tag(slot: Slot, tag: Text) -> Slot
     ensures { result ≡ with_tag slot tag }
 {
     match slot {
-        Slot::Fixed(Term::Plain(text)) => Slot::Fixed(Term::Tagged(text, tag)),
+        Slot::Fixed(term) => match term.into_plain() {
+            Ok(text) => Slot::Fixed(Term::Tagged(text, tag)),
+            Err(term) => Slot::Fixed(term),
+        },
         other => other,
+    }
+}
+
+/// A plain literal with a datatype, where that is an IRI; any other term as it is.
+fn typed_by(term: Term, datatype: Term) -> Term
+    ensures { slot.Fixed result ≡ with_type (slot.Fixed term) (slot.Fixed datatype) }
+{
+    match (term.into_plain(), datatype.into_iri()) {
+        (Ok(text), Ok(datatype)) => typed(text, datatype),
+        (Ok(text), Err(_)) => Term::Plain(text),
+        (Err(term), _) => term,
     }
 }
 
@@ -149,9 +164,7 @@ pub fn with_type(slot: Slot, datatype: Slot) -> Slot
     ensures { result ≡ with_type slot datatype }
 {
     match (slot, datatype) {
-        (Slot::Fixed(Term::Plain(text)), Slot::Fixed(Term::Iri(datatype))) => {
-            Slot::Fixed(typed(text, datatype))
-        }
+        (Slot::Fixed(term), Slot::Fixed(datatype)) => Slot::Fixed(typed_by(term, datatype)),
         (slot, _) => slot,
     }
 }

@@ -42,7 +42,7 @@ pub struct Cut {
 }
 
 /// A query.
-#[derive(Debug, Drop)]
+#[derive(Debug)]
 pub enum Query {
     /// Asks for a table of the values of some variables.
     Select {
@@ -63,6 +63,32 @@ pub enum Query {
         group: Patterns,
         cut: Cut,
     },
+}
+
+// By hand: a derived drop is expanded, down to each text, wherever a query is let go.
+impl Drop for Query {
+    fn drop(self) {
+        match self {
+            Query::Select {
+                distinct: _,
+                vars,
+                group,
+                cut: _,
+            } => {
+                drop(vars);
+                drop(group);
+            }
+            Query::Ask { group } => drop(group),
+            Query::Construct {
+                template,
+                group,
+                cut: _,
+            } => {
+                drop(template);
+                drop(group);
+            }
+        }
+    }
 }
 
 impl Duplicate for Slot {

@@ -55,7 +55,7 @@ fn observed_patterns(rt: HostRuntime) -> Result<(), Memory> {
         ("ASK { GRAPH <e:g> { ?s ?p ?o } }", "any any any one"),
     ];
     for (text, wanted) in cases {
-        if let Query::Ask { group } = read(&rt, alloc, text) {
+        if let Query::Ask { group } = &read(&rt, alloc, text) {
             for pattern in group.as_slice() {
                 let observed = pattern_of(alloc, pattern)?;
                 assert_eq!(rt; shown(alloc, &observed)?.as_str(), wanted, "{text}");

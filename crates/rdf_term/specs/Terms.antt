@@ -1,5 +1,5 @@
 -- The parts of terms, and which terms may stand where (RDF 1.1 Concepts, section 3).
-use Rattle.std.specs.Prelude.{ℕ, List, []}
+use Rattle.std.specs.Prelude.{ℕ, List, [], Result, Ok, Err}
 use Rattle.rdf_term.specs.declared.term.Term.{Term}
 use Rattle.rdf_term.specs.declared.term.Term.TheVariants.{Iri, Blank, Plain, Tagged, Typed}
 use Rattle.rdf_term.specs.declared.graph.Graph.{Graph}
@@ -27,6 +27,22 @@ second (Blank t) = []
 second (Plain t) = []
 second (Tagged t u) = u
 second (Typed t u) = u
+
+-- the text of a plain literal, or else the term
+abbrev pub plain_text : Term → Result (List ℕ) Term
+plain_text (Iri t) = Err (Iri t)
+plain_text (Blank t) = Err (Blank t)
+plain_text (Plain t) = Ok t
+plain_text (Tagged t u) = Err (Tagged t u)
+plain_text (Typed t u) = Err (Typed t u)
+
+-- the text of an IRI, or else the term
+abbrev pub iri_text : Term → Result (List ℕ) Term
+iri_text (Iri t) = Ok t
+iri_text (Blank t) = Err (Blank t)
+iri_text (Plain t) = Err (Plain t)
+iri_text (Tagged t u) = Err (Tagged t u)
+iri_text (Typed t u) = Err (Typed t u)
 
 -- what may name a subject or a graph
 abbrev pub IsResource : Term → Type 0

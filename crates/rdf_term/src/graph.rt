@@ -13,7 +13,7 @@ use std::cmp::Ordering;
 
 /// The graph that a quad stands in (RDF 1.1 N-Quads): none, which is the default graph, or a named
 /// one. The absent graph comes before every named one, and named ones are ordered by their names.
-#[derive(Debug, Drop)]
+#[derive(Debug)]
 pub enum Graph {
     Absent,
     Named(Term),
@@ -49,6 +49,16 @@ impl Graph {
             (Graph::Absent, Graph::Named(_)) => Ordering::Less,
             (Graph::Named(_), Graph::Absent) => Ordering::Greater,
             (Graph::Named(name), Graph::Named(other)) => name.order(other),
+        }
+    }
+}
+
+// By hand: a derived drop is expanded wherever a graph is let go.
+impl Drop for Graph {
+    fn drop(self) {
+        match self {
+            Graph::Absent => {}
+            Graph::Named(name) => drop(name),
         }
     }
 }

@@ -5,7 +5,7 @@ use crate::{Duplicate, Graph, Memory, Quad, Term};
 use std::alloc::Global;
 
 /// Which graphs a pattern picks.
-#[derive(Debug, Drop)]
+#[derive(Debug)]
 pub enum GraphPick {
     /// Every graph, the absent one too.
     Any,
@@ -16,12 +16,33 @@ pub enum GraphPick {
 }
 
 /// A pattern of quads. A part that is not given picks every term.
-#[derive(Debug, Drop)]
+#[derive(Debug)]
 pub struct Pattern {
     pub s: Option<Term>,
     pub p: Option<Term>,
     pub o: Option<Term>,
     pub c: GraphPick,
+}
+
+// By hand, both of them: a derived drop is expanded wherever a pattern is let go.
+impl Drop for GraphPick {
+    fn drop(self) {
+        match self {
+            GraphPick::Any => {}
+            GraphPick::NamedOnly => {}
+            GraphPick::One(graph) => drop(graph),
+        }
+    }
+}
+
+impl Drop for Pattern {
+    fn drop(self) {
+        let Pattern { s, p, o, c } = self;
+        drop(s);
+        drop(p);
+        drop(o);
+        drop(c);
+    }
 }
 
 impl GraphPick {

@@ -32,7 +32,7 @@ pub enum TermFault {
 /// a graph is named by an IRI or a blank node.
 ///
 /// Quads are ordered by subject, predicate, object, graph.
-#[derive(Debug, Drop)]
+#[derive(Debug)]
 pub struct Quad {
     s: Term,
     p: Term,
@@ -117,6 +117,17 @@ impl Quad {
             .then_with(|| self.p.order(&other.p))
             .then_with(|| self.o.order(&other.o))
             .then_with(|| self.c.order(&other.c))
+    }
+}
+
+// By hand: a derived drop is expanded wherever a quad is let go.
+impl Drop for Quad {
+    fn drop(self) {
+        let Quad { s, p, o, c } = self;
+        drop(s);
+        drop(p);
+        drop(o);
+        drop(c);
     }
 }
 

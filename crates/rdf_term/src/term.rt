@@ -2,7 +2,7 @@ ghost use Rattle.std.specs.Prelude.{◌≡◌, ◌↔◌, IsTrue, IfOk, encode_u
 ghost use Rattle.std.specs.Ordering.{eq_by_cmp, as_partial_cmp};
 ghost use Rattle.std.specs.Cmp.{partial_equiv_from_equiv, partial_order_from_total};
 ghost use Rattle.std.proofs.lemmas.Cmp.{eq_by_cmp_equiv};
-ghost use Rattle.rdf_term.specs.Terms.{kind, first, second, IsResource, IsIri};
+ghost use Rattle.rdf_term.specs.Terms.{kind, first, second, IsResource, IsIri, plain_text, iri_text};
 ghost use Rattle.rdf_term.specs.Order.{term_cmp};
 ghost use Rattle.rdf_term.specs.OrderLaws.{term_total};
 ghost use Rattle.rdf_term.specs.Validity.{is_valid, IsValidTerm};
@@ -15,7 +15,7 @@ use std::cmp::Ordering;
 ///
 /// Terms are ordered by kind, in the order of the variants, then by the first text, then by the
 /// second.
-#[derive(Debug, Drop)]
+#[derive(Debug)]
 pub enum Term {
     /// An IRI's text.
     Iri(Text),
@@ -80,6 +80,26 @@ impl Term {
         matches!(self, Term::Iri(_))
     }
 
+    /// The text of a plain literal; any other term is handed back as it is.
+    pub fn into_plain(self) -> Result<Text, Term>
+        ensures { result ≡ plain_text self }
+    {
+        match self {
+            Term::Plain(text) => Ok(text),
+            other => Err(other),
+        }
+    }
+
+    /// The text of an IRI; any other term is handed back as it is.
+    pub fn into_iri(self) -> Result<Text, Term>
+        ensures { result ≡ iri_text self }
+    {
+        match self {
+            Term::Iri(text) => Ok(text),
+            other => Err(other),
+        }
+    }
+
     /// Whether the term is valid: its texts meet the grammar of RDF 1.1 N-Triples, section 7, and
     /// this product's own rules. An IRI has a scheme, no part is over 65,535 bytes, and no literal
     /// is typed as `xsd:string`. It takes no memory.
@@ -109,6 +129,25 @@ impl Term {
             .cmp(&other.kind())
             .then_with(|| self.first().cmp(other.first()))
             .then_with(|| self.second().cmp(other.second()))
+    }
+}
+
+// By hand: a derived drop is expanded, down to each text, wherever a term is let go.
+impl Drop for Term {
+    fn drop(self) {
+        match self {
+            Term::Iri(text) => drop(text),
+            Term::Blank(text) => drop(text),
+            Term::Plain(text) => drop(text),
+            Term::Tagged(text, tag) => {
+                drop(text);
+                drop(tag);
+            }
+            Term::Typed(text, datatype) => {
+                drop(text);
+                drop(datatype);
+            }
+        }
     }
 }
 
