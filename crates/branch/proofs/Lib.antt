@@ -1,4 +1,5 @@
 pub mod BoundLemmas
+mod CountLemmas
 pub mod DeltaLemmas
 pub mod Examples
 pub mod LayerLemmas

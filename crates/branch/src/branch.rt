@@ -1,5 +1,6 @@
-ghost use Rattle.std.specs.Prelude.{◌≡◌, ◌+◌, ◌≤◌, IfOk, OnOk, OnErr};
+ghost use Rattle.std.specs.Prelude.{◌≡◌, ◌+◌, ◌-◌, ◌^◌, ◌≤◌, length, filter, min, IfOk, OnOk, OnErr};
 ghost use Rattle.std.specs.List.Sorted.{IsStrictlySortedBy};
+ghost use Rattle.rdf_term.specs.Matching.{matches};
 ghost use Rattle.rdf_term.specs.Order.{quad_cmp};
 ghost use Rattle.quad_index.specs.Contents.{is_in};
 ghost use Rattle.change_set.specs.Content.{applied};
@@ -7,7 +8,7 @@ ghost use Rattle.branch.specs.Deltas.{IsDelta};
 ghost use Rattle.rdf_term.specs.declared.pattern.GraphPick.TheVariants as picks;
 
 use crate::deltas::Delta;
-use crate::{deltas, layers};
+use crate::{counts, deltas, layers};
 use change_set::ChangeSet;
 use quad_index::Index;
 use rdf_term::{GraphPick, Memory, Pattern, Quad, Quads, Scan};
@@ -140,6 +141,18 @@ impl Branch {
         ensures ascending { IsStrictlySortedBy quad_cmp self.now.quads }
     {
         layers::holds(&self.base, self.layers.as_slice(), quad)
+    }
+
+    /// The number of quads of the content that match the pattern, at most `u64::MAX`. It takes no
+    /// memory.
+    ///
+    /// It looks at the quads that the change sets name and that can match, and at those of the base
+    /// that the pattern and a removed one both match; the rest of the base is counted as the index
+    /// counts.
+    pub fn count(&self, pattern: &Pattern) -> u64
+        ensures { result ≡ min (length (filter (matches pattern.now) self.now.quads)) (2 ^ 64 - 1) }
+    {
+        counts::count(&self.base, self.layers.as_slice(), pattern)
     }
 
     /// An index with the content, in the orders of the base.

@@ -5,6 +5,7 @@
 #![tactic(auto)]
 
 mod branch;
+mod counts;
 mod deltas;
 mod layers;
 

@@ -211,25 +211,58 @@ empty_end : {X : Type 0} (xs : List X) → xs ++ [] ≡ xs
 empty_end [] = refl
 empty_end (x ∷ xs) = ap (λ ys. x ∷ ys) (empty_end xs)
 
+-- the part of a list in which alone a pattern matches has all that it matches of what is taken from the entries one by one
+module _ (of : List (Statement × Mark) → List Statement) (p : Pattern)
+    (of-append : (es fs : List (Statement × Mark)) → filter (matches p) (of (es ++ fs)) ≡ filter (matches p) (of es) ++ filter (matches p) (of fs))
+    (of_none : (es : List (Statement × Mark)) → ((k : ℕ) (d : Statement × Mark) → k < length es → matches p (get_or es k d).0 ≡ false) → filter (matches p) (of es) ≡ []) where
+  middle_of : (es : List (Statement × Mark)) (start end : ℕ) → start ≤ end → end ≤ length es
+      → ((k : ℕ) (d : Statement × Mark) → k < start → matches p (get_or es k d).0 ≡ false)
+      → ((k : ℕ) (d : Statement × Mark) → end ≤ k → k < length es → matches p (get_or es k d).0 ≡ false)
+      → filter (matches p) (of (slice_range es start end)) ≡ filter (matches p) (of es)
+  middle_of es start end l m low high =
+      let cut : take start es ++ (slice_range es start end ++ drop end es) ≡ es = ap (λ ys. take start es ++ ys) (sym (drop_split es start end l)) ∙ take-append-drop start es in
+      let front : filter (matches p) (of (take start es)) ≡ [] = of_none (take start es) (λ k d b. let small : k < start = omega (arith, length-take-le start es (omega arith)) in
+      ap (λ (e : Statement × Mark). matches p e.0) (get_or-take start es k d small) ∙ low k d small) in
+      let back : filter (matches p) (of (drop end es)) ≡ [] = of_none (drop end es) (λ k d b.
+      ap (λ (e : Statement × Mark). matches p e.0) (get_or-drop end es k d) ∙ high (end + k) d (omega arith) (inside k b)) in
+      sym (ap (λ ys. filter (matches p) (of ys)) (sym cut)
+      ∙ of-append (take start es) (slice_range es start end ++ drop end es)
+      ∙ ap (λ ys. ys ++ filter (matches p) (of (slice_range es start end ++ drop end es))) front
+      ∙ of-append (slice_range es start end) (drop end es)
+      ∙ ap (λ ys. filter (matches p) (of (slice_range es start end)) ++ ys) back
+      ∙ empty_end (filter (matches p) (of (slice_range es start end))))
+    where
+      inside : (k : ℕ) → k < length (drop end es) → end + k < length es
+      inside k b = omega (arith, length-drop end es)
+
 pub middle : (p : Pattern) (es : List (Statement × Mark)) (start end : ℕ) → start ≤ end → end ≤ length es
     → ((k : ℕ) (d : Statement × Mark) → k < start → matches p (get_or es k d).0 ≡ false)
     → ((k : ℕ) (d : Statement × Mark) → end ≤ k → k < length es → matches p (get_or es k d).0 ≡ false)
     → filter (matches p) (kept_added (slice_range es start end)) ≡ filter (matches p) (kept_added es)
-middle p es start end l m low high =
-    let cut : take start es ++ (slice_range es start end ++ drop end es) ≡ es = ap (λ ys. take start es ++ ys) (sym (drop_split es start end l)) ∙ take-append-drop start es in
-    let front : filter (matches p) (kept_added (take start es)) ≡ [] = none_added p (take start es) (λ k d b. let small : k < start = omega (arith, length-take-le start es (omega arith)) in
-    ap (λ (e : Statement × Mark). matches p e.0) (get_or-take start es k d small) ∙ low k d small) in
-    let back : filter (matches p) (kept_added (drop end es)) ≡ [] = none_added p (drop end es) (λ k d b.
-    ap (λ (e : Statement × Mark). matches p e.0) (get_or-drop end es k d) ∙ high (end + k) d (omega arith) (inside k b)) in
-    sym (ap (λ ys. filter (matches p) (kept_added ys)) (sym cut)
-    ∙ added-append p (take start es) (slice_range es start end ++ drop end es)
-    ∙ ap (λ ys. ys ++ filter (matches p) (kept_added (slice_range es start end ++ drop end es))) front
-    ∙ added-append p (slice_range es start end) (drop end es)
-    ∙ ap (λ ys. filter (matches p) (kept_added (slice_range es start end)) ++ ys) back
-    ∙ empty_end (filter (matches p) (kept_added (slice_range es start end))))
+middle p = middle_of kept_added p (added-append p) (none_added p)
+
+-- ---- the quads that a part of the list names
+
+none_named : (p : Pattern) (es : List (Statement × Mark)) → ((k : ℕ) (d : Statement × Mark) → k < length es → matches p (get_or es k d).0 ≡ false) → filter (matches p) (keys_of es) ≡ []
+none_named p [] h = refl
+none_named p (e ∷ es) h =
+    (λ i. cond (h 0 e (omega arith) i) (e.0 ∷ filter (matches p) (keys_of es)) (filter (matches p) (keys_of es)))
+    ∙ none_named p es (λ k d l. h (suc k) d (omega arith))
+
+named-append : (p : Pattern) (es fs : List (Statement × Mark)) → filter (matches p) (keys_of (es ++ fs)) ≡ filter (matches p) (keys_of es) ++ filter (matches p) (keys_of fs)
+named-append p [] fs = refl
+named-append p (e ∷ es) fs = at (matches p e.0) (named-append p es fs)
   where
-    inside : (k : ℕ) → k < length (drop end es) → end + k < length es
-    inside k b = omega (arith, length-drop end es)
+    at : (b : Bool) → filter (matches p) (keys_of (es ++ fs)) ≡ filter (matches p) (keys_of es) ++ filter (matches p) (keys_of fs)
+        → cond b (e.0 ∷ filter (matches p) (keys_of (es ++ fs))) (filter (matches p) (keys_of (es ++ fs))) ≡ cond b (e.0 ∷ filter (matches p) (keys_of es)) (filter (matches p) (keys_of es)) ++ filter (matches p) (keys_of fs)
+    at true r = ap (λ qs. e.0 ∷ qs) r
+    at false r = r
+
+pub middle_named : (p : Pattern) (es : List (Statement × Mark)) (start end : ℕ) → start ≤ end → end ≤ length es
+    → ((k : ℕ) (d : Statement × Mark) → k < start → matches p (get_or es k d).0 ≡ false)
+    → ((k : ℕ) (d : Statement × Mark) → end ≤ k → k < length es → matches p (get_or es k d).0 ≡ false)
+    → filter (matches p) (keys_of (slice_range es start end)) ≡ filter (matches p) (keys_of es)
+middle_named p = middle_of keys_of p (named-append p) (none_named p)
 
 -- ---- the mark of one quad
 

@@ -3,6 +3,7 @@ ghost use Rattle.std.specs.List.{list_any, filter_map};
 ghost use Rattle.std.specs.Option.{option_copied};
 ghost use Rattle.std.specs.Map.{lookup, keys_of};
 ghost use Rattle.std.specs.BTreeMap.{is_at};
+ghost use Rattle.std.specs.Ordering.{eq_by_cmp};
 ghost use Rattle.rdf_term.specs.Order.{quad_cmp};
 ghost use Rattle.rdf_term.specs.Matching.{matches};
 ghost use Rattle.change_set.specs.Content.{added, content, last_effect, named_quads};
@@ -155,6 +156,21 @@ impl Kept {
                 }
             }
         }
+    }
+
+    /// Whether a change names the quad.
+    pub(crate) fn names(&self, quad: &Quad) -> bool
+        ensures { result ≡ list_any (eq_by_cmp quad_cmp quad.now) (named_quads self.now) }
+    {
+        mark_of(self.named.as_slice(), quad).is_some()
+    }
+
+    /// Named quads among which are all that the pattern matches: those whose leading parts are the ones
+    /// that the pattern gives.
+    pub(crate) fn named_near(&self, pattern: &Pattern) -> &[Marked]
+        ensures { filter (matches pattern.now) (keys_of result.now) ≡ filter (matches pattern.now) (named_quads self.now) }
+    {
+        range::within(self.named.as_slice(), pattern)
     }
 
     pub(crate) fn least_touched(&self, patterns: &[Pattern]) -> Option<&Quad>

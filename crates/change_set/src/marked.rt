@@ -16,7 +16,7 @@ use std::sync::Arc;
 ///
 /// They are ordered by their quads alone, so that of several marks of one quad one can be kept.
 #[derive(Drop)]
-pub(crate) struct Marked {
+pub struct Marked {
     quad: Arc<Quad>,
     mark: Mark,
 }
@@ -59,13 +59,15 @@ impl Marked {
         Marked { quad, mark }
     }
 
-    pub(crate) fn quad(&self) -> &Quad
+    /// The quad.
+    pub fn quad(&self) -> &Quad
         ensures { result.now ≡ self.now.0 }
     {
         &self.quad
     }
 
-    pub(crate) fn mark(&self) -> Mark
+    /// What the last change that touches it does.
+    pub fn mark(&self) -> Mark
         ensures { result ≡ self.now.1 }
     {
         self.mark

@@ -1,5 +1,6 @@
 //! The part of a sorted list that a pattern can match, found by halves.
 ghost use Rattle.std.specs.Prelude.{◌≡◌, ℕ, ◌<◌, ◌≤◌, false, length, filter, slice_index_or};
+ghost use Rattle.std.specs.Map.{keys_of};
 ghost use Rattle.rdf_term.specs.Matching.{matches};
 ghost use Rattle.rdf_term.specs.Statement.{Statement};
 ghost use Rattle.change_set.specs.declared.effect.Mark.{Mark};
@@ -31,7 +32,8 @@ fn upper(named: &[Marked], pattern: &Pattern) -> usize
 /// it matches.
 pub(crate) fn within<'a>(named: &'a [Marked], pattern: &Pattern) -> &'a [Marked]
     requires { IsInOrder named.now }
-    ensures { filter (matches pattern.now) (kept_added result.now) ≡ filter (matches pattern.now) (kept_added named.now) }
+    ensures added { filter (matches pattern.now) (kept_added result.now) ≡ filter (matches pattern.now) (kept_added named.now) }
+    ensures named { filter (matches pattern.now) (keys_of result.now) ≡ filter (matches pattern.now) (keys_of named.now) }
 {
     let start = lower(named, pattern);
     let end = upper(named, pattern).max(start);

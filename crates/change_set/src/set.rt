@@ -1,14 +1,17 @@
-ghost use Rattle.std.specs.Prelude.{◌≡◌, [], ◌∷◌, ◌++◌, length, find, IfOk, OnOk, OnErr};
+ghost use Rattle.std.specs.Prelude.{◌≡◌, [], ◌∷◌, ◌++◌, length, filter, find, IfOk, OnOk, OnErr};
 ghost use Rattle.std.specs.List.{list_any};
+ghost use Rattle.std.specs.Map.{keys_of};
+ghost use Rattle.std.specs.Ordering.{eq_by_cmp};
 ghost use Rattle.std.specs.Option.{option_copied};
 ghost use Rattle.rdf_term.specs.Matching.{matches};
+ghost use Rattle.rdf_term.specs.Order.{quad_cmp};
 ghost use Rattle.change_set.specs.Content.{last_effect, named_quads, SameChanges};
 ghost use Rattle.change_set.specs.Deltas.{removed_patterns, removed_quads, swapped};
 
 use crate::effect::Mark;
 use crate::gathered::Gathered;
 use crate::kept::Kept;
-use crate::{Change, Effect};
+use crate::{Change, Effect, Marked};
 use rdf_term::{Duplicate, Memory, Pattern, Quad, Quads, Scan};
 use std::alloc::Global;
 use std::marker::Model;
@@ -153,6 +156,28 @@ impl ChangeSet {
         match &self.kept {
             None => Ok(Quads::new(alloc)),
             Some(kept) => kept.removals(alloc),
+        }
+    }
+
+    /// Whether a change of the set names the quad. A quad that is only touched by a removed pattern is
+    /// not named.
+    pub fn names(&self, quad: &Quad) -> bool
+        ensures { result ≡ list_any (eq_by_cmp quad_cmp quad.now) (named_quads self.now) }
+    {
+        match &self.kept {
+            None => false,
+            Some(kept) => kept.names(quad),
+        }
+    }
+
+    /// Quads that the set names, in their order, with what it does to each. All that the pattern matches
+    /// are among them: those are left out, by halves, whose leading parts are not the ones that it gives.
+    pub fn named_near(&self, pattern: &Pattern) -> &[Marked]
+        ensures { filter (matches pattern.now) (keys_of result.now) ≡ filter (matches pattern.now) (named_quads self.now) }
+    {
+        match &self.kept {
+            None => &[],
+            Some(kept) => kept.named_near(pattern),
         }
     }
 

@@ -11,7 +11,7 @@ use Rattle.std.proofs.lemmas.List.Folds.{list_any_at}
 use Rattle.std.proofs.lemmas.List.{map-append, length-map}
 use Rattle.std.proofs.lemmas.List.Sums.{fold-append, length-filter}
 use Rattle.std.proofs.lemmas.List.Kept.{IsStrictlySortedBy-filter}
-use Rattle.std.proofs.lemmas.Bool.{or_right}
+use Rattle.std.proofs.lemmas.Bool.{or_right, lt-ltb, le-leb}
 use Rattle.rdf_term.specs.declared.pattern.Pattern.{Pattern}
 use Rattle.rdf_term.specs.declared.term.Term.{Term}
 use Rattle.rdf_term.specs.declared.term.Term.TheVariants.{Iri}
@@ -23,10 +23,11 @@ use Rattle.rdf_term.proofs.SetLemmas.{has-sorted_set, sorted_set-is}
 use Rattle.quad_index.specs.declared.letter.Letter.{Letter}
 use Rattle.quad_index.specs.declared.code.Code.{Code}
 use Rattle.quad_index.specs.Letters.{run, IsChosen}
-use Rattle.quad_index.specs.Codes.{code_cmp, code_total, decode, IsCode, IsKnown, is_known, term_at, graph_at, graph_terms, terms_of, is_within, HasSame}
+use Rattle.quad_index.specs.Codes.{code_cmp, code_total, decode, IsCode, IsKnown, is_known, term_at, graph_at, graph_terms, terms_of, is_within, is_ranked, passes_at, arrange_back, HasSame, HasSameWithin}
 use Rattle.quad_index.specs.Contents.{Arranged, is_in, IsBest}
 use Rattle.quad_index.proofs.CodeLemmas.{code_exact, decode_cmp, decode-sorted_set, decode-ascends, all-sorted_set}
 use Rattle.quad_index.proofs.DictionaryLemmas.{all-append}
+use Rattle.quad_index.proofs.RunLemmas.{count-map}
 
 -- ---- a dictionary of quads has their terms
 
@@ -144,13 +145,52 @@ pub none_match : (terms : List Term) (q : Statement → Bool) (codes : List Code
 none_match terms q [] a h = refl
 none_match terms q (k ∷ ks) a h = (λ i. cond (h k a.0 i) (decode terms k ∷ filter q (map (decode terms) ks)) (filter q (map (decode terms) ks))) ∙ none_match terms q ks a.1 h
 
--- how many codes lie within bounds, in any list of the same codes
-pub counted : (terms : List Term) (p : Code → Bool) (q : Statement → Bool) (codes others : List Code) → AllByRecursion (IsCode terms) codes
-    → ((k : Code) → IsCode terms k → p k ≡ q (decode terms k)) → HasSame codes others → count_by p others ≡ length (filter q (map (decode terms) codes))
-counted terms p q codes others a h s = sym (h' p) ∙ sym (length-filter p codes) ∙ sym (length-map (filter p codes) (decode terms)) ∙ ap length (decode-filter terms p q codes a h)
-  where
-    h' : (test : Code → Bool) → count_by test codes ≡ count_by test others
-    h' = s.counts
+-- ---- how many codes pass a test
+
+-- as many codes pass as quads
+counted : (terms : List Term) (p : Code → Bool) (q : Statement → Bool) (codes : List Code) → AllByRecursion (IsCode terms) codes
+    → ((k : Code) → IsCode terms k → p k ≡ q (decode terms k)) → count_by p codes ≡ length (filter q (map (decode terms) codes))
+counted terms p q codes a h = sym (length-filter p codes) ∙ sym (length-map (filter p codes) (decode terms)) ∙ ap length (decode-filter terms p q codes a h)
+
+-- a part of a run that has all codes which can pass tells how many do
+pub counted_near : (terms : List Term) (low high : Code) (p : Code → Bool) (q : Statement → Bool) (order : List Letter) (codes near : List Code) → AllByRecursion (IsCode terms) codes
+    → ((k : Code) → IsCode terms k → p k ≡ q (decode terms k)) → ((k : Code) → p k ≡ true → is_within low high k ≡ true) → HasSameWithin low high codes (map (arrange_back order) near)
+    → count_by (λ k. p (arrange_back order k)) near ≡ length (filter q (map (decode terms) codes))
+counted_near terms low high p q order codes near a h w n =
+    sym (count-map p (arrange_back order) near) ∙ sym (n.counts p w) ∙ counted terms p q codes a h
+
+all_pass : (q : Statement → Bool) (xs : List Statement) → ((x : Statement) → q x ≡ true) → filter q xs ≡ xs
+all_pass q [] h = refl
+all_pass q (x ∷ xs) h = (λ i. cond (h x i) (x ∷ filter q xs) (filter q xs)) ∙ ap (λ ys. x ∷ ys) (all_pass q xs h)
+
+pub counted_all : (terms : List Term) (q : Statement → Bool) (codes : List Code) → ((x : Statement) → q x ≡ true) → length codes ≡ length (filter q (map (decode terms) codes))
+counted_all terms q codes h = sym (length-map codes (decode terms)) ∙ ap length (sym (all_pass q (map (decode terms) codes) h))
+
+ranked : (terms : List Term) (k : Code) → IsCode terms k → is_ranked terms k ≡ true
+ranked terms k c = λ i. lt-ltb k.first (length terms) c.subject i && lt-ltb k.second (length terms) c.predicate i && lt-ltb k.third (length terms) c.object i && le-leb k.fourth (length terms) c.graph i
+
+-- the test of codes that lie within two bounds is that of quads that two patterns match
+pub found_both : (terms : List Term) (p r : Code → Bool) (m n test : Statement → Bool) → ((k : Code) → IsCode terms k → p k ≡ m (decode terms k)) → ((k : Code) → IsCode terms k → r k ≡ n (decode terms k))
+    → (k : Code) → IsCode terms k → (p k && (r k && passes_at test terms k)) ≡ (m (decode terms k) && (n (decode terms k) && test (decode terms k)))
+found_both terms p r m n test f g k c = λ i. f k c i && (g k c i && (ranked terms k c i && test (decode terms k)))
+
+pub first_of : (a b : Bool) → (a && b) ≡ true → a ≡ true
+first_of true b h = refl
+first_of false b h = cc
+
+pub second_of : (a b c : Bool) → (a && (b && c)) ≡ true → b ≡ true
+second_of true true c h = refl
+second_of true false c h = cc
+second_of false b c h = cc
+
+pub never_first : (a b : Bool) → a ≡ false → (a && b) ≡ false
+never_first true b h = cc
+never_first false b h = refl
+
+pub never_second : (a b c : Bool) → b ≡ false → (a && (b && c)) ≡ false
+never_second true true c h = cc
+never_second true false c h = refl
+never_second false b c h = refl
 
 -- ---- sets with one quad more or fewer
 

@@ -15,7 +15,7 @@ use Rattle.quad_index.specs.declared.letter.Letter.{Letter}
 use Rattle.quad_index.specs.declared.letter.Letter.TheVariants.{S, P, O, C}
 use Rattle.quad_index.specs.declared.code.Code.{Code}
 use Rattle.quad_index.specs.Letters.{same_letter, IsArrangement}
-use Rattle.quad_index.specs.Codes.{code_cmp, code_total, part, arrange, arrange_back, number_of, is_between, is_within, HasSame, IsFromTo, IsRun}
+use Rattle.quad_index.specs.Codes.{code_cmp, code_total, part, arrange, arrange_back, number_of, is_between, is_within, HasSame, HasSameWithin, IsFromTo, IsRun}
 use Rattle.quad_index.proofs.CodeLemmas.{code_exact, cmp_below, cmp_same}
 use Rattle.quad_index.proofs.LetterLemmas.{four_is}
 use Rattle.quad_index.proofs.ListLemmas.{sorted}
@@ -237,13 +237,24 @@ from_to order low high key e w = record {
 
 module _ (order : List Letter) (keys part : List Code) (low high first last : Code) (r : IsRun order keys) (e : first ≡ arrange order low) (f : last ≡ arrange order high)
     (h : (test : Code → Bool) → All (λ k. test k ≡ true → IsFromTo first last k) keys → filter test part ≡ filter test keys) where
-  part_is : filter (λ k. is_within low high (arrange_back order k)) part ≡ filter (λ k. is_within low high (arrange_back order k)) keys
-  part_is = h (λ k. is_within low high (arrange_back order k)) (λ k d b w. subst (λ (bound : Code). IsFromTo bound last (get_or keys k d)) (sym e)
-      (subst (λ (bound : Code). IsFromTo (arrange order low) bound (get_or keys k d)) (sym f) (from_to order low high (get_or keys k d) (r.arranged k d b) w)))
+  -- the part has all keys of codes within bounds
+  part_has : (test : Code → Bool) → ((k : Code) → test k ≡ true → is_within low high k ≡ true) → filter (λ k. test (arrange_back order k)) part ≡ filter (λ k. test (arrange_back order k)) keys
+  part_has test w = h (λ k. test (arrange_back order k)) (λ k d b t. subst (λ (bound : Code). IsFromTo bound last (get_or keys k d)) (sym e)
+      (subst (λ (bound : Code). IsFromTo (arrange order low) bound (get_or keys k d)) (sym f) (from_to order low high (get_or keys k d) (r.arranged k d b) (w _ t))))
 
   pub matching_is : filter (is_within low high) (map (arrange_back order) part) ≡ filter (is_within low high) (map (arrange_back order) keys)
-  matching_is = filter-map (is_within low high) (arrange_back order) part ∙ ap (map (arrange_back order)) part_is ∙ sym (filter-map (is_within low high) (arrange_back order) keys)
+  matching_is = filter-map (is_within low high) (arrange_back order) part ∙ ap (map (arrange_back order)) (part_has (is_within low high) (λ k t. t)) ∙ sym (filter-map (is_within low high) (arrange_back order) keys)
 
-  pub count_is : count_by (λ k. is_within low high (arrange_back order k)) part ≡ count_by (is_within low high) (map (arrange_back order) keys)
-  count_is = sym (length-filter (λ k. is_within low high (arrange_back order k)) part) ∙ ap length part_is
-      ∙ length-filter (λ k. is_within low high (arrange_back order k)) keys ∙ sym (count-map (is_within low high) (arrange_back order) keys)
+  pub near_is : HasSameWithin low high (map (arrange_back order) keys) (map (arrange_back order) part)
+  near_is = record {
+    counts = λ test w.
+        count-map test (arrange_back order) keys
+        ∙ sym (length-filter (λ k. test (arrange_back order k)) keys)
+        ∙ ap length (sym (part_has test w))
+        ∙ length-filter (λ k. test (arrange_back order k)) part
+        ∙ sym (count-map test (arrange_back order) part);
+  }
+
+-- what a run has of the codes within bounds, its part has
+pub near_same : (low high : Code) (codes keys part : List Code) → HasSame codes keys → HasSameWithin low high keys part → HasSameWithin low high codes part
+near_same low high codes keys part s n = record { counts = λ test w. s.counts test ∙ n.counts test w }

@@ -1,5 +1,5 @@
 -- Quads as numbers: the ranks of their terms in a dictionary, a strictly ascending list of terms.
-use Rattle.std.specs.Prelude.{◌≡◌, ℕ, ◌<◌, ◌≤◌, ◌-◌, ◌^◌, Bool, true, false, cond, nat_le, ◌&&◌, List, [], ◌∷◌, ◌++◌, slice_index_or, length}
+use Rattle.std.specs.Prelude.{◌≡◌, ℕ, ◌<◌, ◌≤◌, ◌-◌, ◌^◌, Bool, true, false, cond, nat_le, nat_lt, ◌&&◌, List, [], ◌∷◌, ◌++◌, slice_index_or, length}
 use Rattle.std.specs.List.{list_any, count_by, All}
 use Rattle.std.specs.List.Sorted.{IsStrictlySortedBy, IsSorted}
 use Rattle.std.proofs.Common.{zero, suc}
@@ -52,6 +52,14 @@ pub record IsCode (terms : List Term) (k : Code) : Type 0 where
   pub object : k.third < length terms
   pub graph : k.fourth ≤ length terms
   pub statement : IsStatement (term_at terms k.first) (term_at terms k.second) (graph_at terms k.fourth)
+
+-- the numbers of a code are ranks in the dictionary
+abbrev pub is_ranked : List Term → Code → Bool
+is_ranked terms k = nat_lt k.first (length terms) && nat_lt k.second (length terms) && nat_lt k.third (length terms) && nat_le k.fourth (length terms)
+
+-- the quad of a code passes a test
+abbrev pub passes_at : (Statement → Bool) → List Term → Code → Bool
+passes_at test terms k = is_ranked terms k && test (decode terms k)
 
 -- a term is in the dictionary
 abbrev pub is_known : List Term → Term → Bool
@@ -116,6 +124,10 @@ is_within low high k = is_between low.first high.first k.first && is_between low
 -- the same codes, each as often
 pub record HasSame (xs ys : List Code) : Type 0 where
   pub counts : (test : Code → Bool) → count_by test xs ≡ count_by test ys
+
+-- as many codes of each kind that lies within bounds
+pub record HasSameWithin (low high : Code) (xs ys : List Code) : Type 0 where
+  pub counts : (test : Code → Bool) → ((k : Code) → test k ≡ true → is_within low high k ≡ true) → count_by test xs ≡ count_by test ys
 
 -- a key lies between two others or is one of them
 pub record IsFromTo (first last key : Code) : Type 0 where

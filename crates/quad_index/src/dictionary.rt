@@ -1,13 +1,16 @@
 //! The terms of a set of quads by their ranks.
 ghost use Rattle.std.specs.Prelude.{◌≡◌, ℕ, ◌<◌, ◌≤◌, true, false, length, map, fold, IfOk, OnOk, IfSome, IfNone};
 ghost use Rattle.std.specs.List.{flat_map, AllByRecursion};
+ghost use Rattle.std.specs.Option.{option_copied};
 ghost use Rattle.std.specs.List.Sorted.{IsStrictlySortedBy};
 ghost use Rattle.std.specs.BTreeSet.{insert_key};
 ghost use Rattle.rdf_term.specs.Matching.{matches, fits, picks_graph};
 ghost use Rattle.rdf_term.specs.Order.{term_cmp};
 ghost use Rattle.rdf_term.specs.Sets.{sorted_set};
-ghost use Rattle.quad_index.specs.Codes.{term_at, graph_at, decode, IsCode, IsKnown, is_known, graph_terms, terms_of, unless_same, unless_same_graph, new_terms, is_between, is_within};
+ghost use Rattle.quad_index.specs.Codes.{term_at, graph_at, decode, IsCode, IsKnown, is_known, graph_terms, terms_of, unless_same, unless_same_graph, new_terms, is_between, is_ranked, is_within};
+ghost use Rattle.quad_index.specs.Lent.{graph_of, quad_of};
 
+use crate::Parts;
 use crate::code::Code;
 use rdf_term::{Duplicate, Graph, GraphPick, Memory, Pattern, Quad, Quads, Term};
 use std::alloc::Global;
@@ -247,6 +250,38 @@ impl Dictionary {
         ensures { result.now ≡ term_at self.now rank }
     {
         &self.terms[rank as usize]
+    }
+
+    /// The term of a rank, where the number is one.
+    fn ranked(&self, rank: u32) -> Option<&Term>
+        ensures some { IfSome result (λ term. (rank < length self.now) × (term.now ≡ term_at self.now rank)) }
+        ensures none { IfNone result (length self.now ≤ rank) }
+    {
+        self.terms.as_slice().get(rank as usize)
+    }
+
+    /// The name of the graph of a number, none for the absent graph, where the number is a graph's.
+    fn name(&self, number: u32) -> Option<Option<&Term>>
+        ensures some { IfSome result (λ name. (number ≤ length self.now) × (graph_of (option_copied name) ≡ graph_at self.now number)) }
+        ensures none { IfNone result (length self.now < number) }
+    {
+        if number == 0 {
+            return Some(None);
+        }
+        let name = self.ranked(number - 1)?;
+        Some(Some(name))
+    }
+
+    /// The parts of the quad of a code, where its numbers are ranks.
+    pub(crate) fn parts(&self, code: &Code) -> Option<Parts<'_>>
+        ensures some { IfSome result (λ parts. (is_ranked self.now code.now ≡ true) × (quad_of parts ≡ decode self.now code.now)) }
+        ensures none { IfNone result (is_ranked self.now code.now ≡ false) }
+    {
+        let s = self.ranked(code.first)?;
+        let p = self.ranked(code.second)?;
+        let o = self.ranked(code.third)?;
+        let name = self.name(code.fourth)?;
+        Some(Parts { s, p, o, name })
     }
 
     /// A copy of the graph of a number.

@@ -1,9 +1,10 @@
-ghost use Rattle.std.specs.Prelude.{◌≡◌, ◌≤◌, not, length, IfOk, OnOk, OnErr};
+ghost use Rattle.std.specs.Prelude.{◌≡◌, ◌≤◌, ◌&&◌, true, not, length, IfOk, OnOk, OnErr};
 ghost use Rattle.std.specs.List.{filter};
 ghost use Rattle.std.specs.List.Sorted.{IsStrictlySortedBy};
 ghost use Rattle.std.specs.BTreeSet.{insert_key};
 ghost use Rattle.std.specs.Ordering.{eq_by_cmp};
 ghost use Rattle.rdf_term.specs.Matching.{matches};
+ghost use Rattle.rdf_term.specs.Statement.{Statement};
 ghost use Rattle.rdf_term.specs.Order.{quad_cmp};
 ghost use Rattle.rdf_term.specs.Sets.{in_order};
 ghost use Rattle.quad_index.specs.Contents.{is_in};
@@ -12,8 +13,8 @@ ghost use Rattle.quad_index.specs.Letters.{IsChosen};
 use crate::code::{self, Code};
 use crate::dictionary::Dictionary;
 use crate::run::{self, Run};
-use crate::{Order, Orders, runs};
-use rdf_term::{Duplicate, Memory, Pattern, Quad, Quads, Scan};
+use crate::{Order, Orders, Test, runs};
+use rdf_term::{Duplicate, GraphPick, Memory, Pattern, Quad, Quads, Scan};
 use std::alloc::Global;
 use std::marker::Model;
 
@@ -39,6 +40,16 @@ impl Model for Index {
     ghost view = { λ index. record { quads = map (decode index.terms) index.codes.items; orders = map (λ run. run.order) index.runs.items } };
 
     ghost invariant = { λ index. IsWhole index.terms index.codes.items index.runs.items };
+}
+
+/// Whether a pattern gives no part.
+fn is_everything(pattern: &Pattern) -> bool
+    ensures { result ≡ true → (q : Statement) → matches pattern.now q ≡ true }
+{
+    pattern.s.is_none()
+        && pattern.p.is_none()
+        && pattern.o.is_none()
+        && matches!(pattern.c, GraphPick::Any)
 }
 
 impl Index {
@@ -193,11 +204,48 @@ impl Index {
         ensures { result ≡ length (filter (matches pattern.now) self.now.quads) }
     {
         let _codes = &self.codes;
-        let Some((low, high)) = self.terms.bounds(pattern) else {
+        if is_everything(pattern) {
+            return self.codes.len() as u64;
+        }
+        let Some(bounds) = self.terms.bounds(pattern) else {
             return 0;
         };
-        let (order, keys) = runs::serving(self.codes.as_slice(), self.runs.as_slice(), pattern);
-        run::count(&order, keys, &low, &high) as u64
+        let (order, keys) = runs::near(
+            self.codes.as_slice(),
+            self.runs.as_slice(),
+            pattern,
+            &bounds,
+        );
+        run::count_within(&order, keys, &bounds.0, &bounds.1) as u64
+    }
+
+    /// The number of quads that two patterns match and that pass a test. It takes no memory, and looks
+    /// at those that can match the one pattern by the leading parts of an order, or at those that can
+    /// match the other one, whichever are fewer.
+    pub fn count_both<T: Test>(&self, pattern: &Pattern, other: &Pattern, test: &T) -> u64
+        ensures { result ≡ length (filter (λ q. matches pattern.now q && (matches other.now q && T.passes test.now q)) self.now.quads) }
+    {
+        let (codes, runs) = (self.codes.as_slice(), self.runs.as_slice());
+        let Some(bounds) = self.terms.bounds(pattern) else {
+            return 0;
+        };
+        let Some(others) = self.terms.bounds(other) else {
+            return 0;
+        };
+        let (order, keys) = runs::near(codes, runs, pattern, &bounds);
+        let (other_order, other_keys) = runs::near(codes, runs, other, &others);
+        if keys.len() <= other_keys.len() {
+            run::count_found(&self.terms, &order, keys, &bounds, &others, test) as u64
+        } else {
+            run::count_found(
+                &self.terms,
+                &other_order,
+                other_keys,
+                &bounds,
+                &others,
+                test,
+            ) as u64
+        }
     }
 
     /// The quads that match the pattern, found by the order that fits it best.

@@ -9,11 +9,13 @@ mod dictionary;
 mod index;
 mod letter;
 mod order;
+mod parts;
 mod run;
 mod runs;
 
 pub use index::Index;
 pub use order::Order;
+pub use parts::{Parts, Test};
 
 /// Distinct orders of an index.
 pub type Orders = rdf_term::Distinct<Order>;

@@ -1,13 +1,15 @@
 //! Codes that are sorted in an order.
-ghost use Rattle.std.specs.Prelude.{◌≡◌, ℕ, ◌<◌, ◌≤◌, Bool, true, false, length, slice_index_or, map, filter, IfOk};
+ghost use Rattle.std.specs.Prelude.{◌≡◌, ℕ, ◌<◌, ◌≤◌, Bool, true, false, ◌&&◌, length, slice_index_or, map, filter, IfOk};
 ghost use Rattle.std.specs.List.{All, count_by};
 ghost use Rattle.std.specs.List.Sorted.{IsSorted};
 ghost use Rattle.std.specs.Ordering.{is_lt, is_le};
 ghost use Rattle.quad_index.specs.declared.code.Code.{Code};
-ghost use Rattle.quad_index.specs.Codes.{code_cmp, arrange, arrange_back, is_within, IsFromTo, IsRun};
+ghost use Rattle.quad_index.specs.Codes.{code_cmp, arrange, arrange_back, is_within, passes_at, HasSameWithin, IsFromTo, IsRun};
 ghost use Rattle.quad_index.specs.Contents.{IsKept};
 
+use crate::Test;
 use crate::code::Code;
+use crate::dictionary::Dictionary;
 use crate::order::Order;
 use rdf_term::Memory;
 use std::alloc::Global;
@@ -112,8 +114,18 @@ pub(crate) fn matching(
     Ok(found)
 }
 
+/// The part of a run's keys that has all whose codes lie within bounds. It is found by halves.
+pub(crate) fn near<'a>(order: &Order, keys: &'a [Code], low: &Code, high: &Code) -> &'a [Code]
+    requires { IsRun order.now keys.now }
+    ensures { HasSameWithin low.now high.now (map (arrange_back order.now) keys.now) (map (arrange_back order.now) result.now) }
+{
+    let first = order.arrange(low);
+    let last = order.arrange(high);
+    between(keys, &first, &last)
+}
+
 /// How many codes of these keys lie within bounds.
-fn count_within(order: &Order, keys: &[Code], low: &Code, high: &Code) -> usize
+pub(crate) fn count_within(order: &Order, keys: &[Code], low: &Code, high: &Code) -> usize
     ensures { result ≡ count_by (λ key. is_within low.now high.now (arrange_back order.now key)) keys.now }
 {
     keys.iter()
@@ -121,15 +133,40 @@ fn count_within(order: &Order, keys: &[Code], low: &Code, high: &Code) -> usize
         .count()
 }
 
-/// How many codes of a run's keys lie within bounds. It looks at those alone whose leading numbers
-/// can, and takes no memory.
-pub(crate) fn count(order: &Order, keys: &[Code], low: &Code, high: &Code) -> usize
-    requires { IsRun order.now keys.now }
-    ensures { result ≡ count_by (is_within low.now high.now) (map (arrange_back order.now) keys.now) }
+/// Whether a code lies within two bounds, and the quad that it is the code of passes a test.
+fn is_found<T: Test>(
+    terms: &Dictionary,
+    code: &Code,
+    bounds: &(Code, Code),
+    others: &(Code, Code),
+    test: &T,
+) -> bool
+    ensures { result ≡ (is_within bounds.now.0 bounds.now.1 code.now && (is_within others.now.0 others.now.1 code.now && passes_at (T.passes test.now) terms.now code.now)) }
 {
-    let first = order.arrange(low);
-    let last = order.arrange(high);
-    count_within(order, between(keys, &first, &last), low, high)
+    if !code.is_within(&bounds.0, &bounds.1) || !code.is_within(&others.0, &others.1) {
+        return false;
+    }
+    match terms.parts(code) {
+        Some(parts) => test.passes(&parts),
+        None => false,
+    }
+}
+
+/// How many codes of these keys lie within two bounds and are the codes of quads that pass a test.
+pub(crate) fn count_found<T: Test>(
+    terms: &Dictionary,
+    order: &Order,
+    keys: &[Code],
+    bounds: &(Code, Code),
+    others: &(Code, Code),
+    test: &T,
+) -> usize
+    ensures { result ≡ count_by (λ key. is_within bounds.now.0 bounds.now.1 (arrange_back order.now key) && (is_within others.now.0 others.now.1 (arrange_back order.now key)
+        && passes_at (T.passes test.now) terms.now (arrange_back order.now key))) keys.now }
+{
+    keys.iter()
+        .filter(|key| is_found(terms, &order.arrange_back(key), bounds, others, test))
+        .count()
 }
 
 impl Run {

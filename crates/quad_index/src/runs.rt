@@ -2,12 +2,12 @@
 ghost use Rattle.std.specs.Prelude.{◌≡◌, ◌<◌, length, map, IfOk};
 ghost use Rattle.std.specs.List.{All};
 ghost use Rattle.std.specs.List.Sorted.{IsStrictlySortedBy};
-ghost use Rattle.quad_index.specs.Codes.{code_cmp, arrange_back, HasSame, IsRun};
+ghost use Rattle.quad_index.specs.Codes.{code_cmp, arrange_back, HasSame, HasSameWithin, IsRun};
 ghost use Rattle.quad_index.specs.Contents.{IsBest, IsKept};
 
 use crate::code::Code;
 use crate::order::Order;
-use crate::run::Run;
+use crate::run::{self, Run};
 use rdf_term::{Memory, Pattern};
 use std::alloc::Global;
 
@@ -85,4 +85,20 @@ pub(crate) fn serving<'a>(
         return (Order::spoc(), codes);
     }
     (order, run.keys())
+}
+
+/// An order, and keys in it that have all codes which lie within the bounds of a pattern.
+pub(crate) fn near<'a>(
+    codes: &'a [Code],
+    runs: &'a [Run],
+    pattern: &Pattern,
+    bounds: &(Code, Code),
+) -> (Order, &'a [Code])
+    requires some { 0 < length runs.now }
+    requires ascending { IsStrictlySortedBy code_cmp codes.now }
+    requires kept { All (λ run. IsKept codes.now run) runs.now }
+    ensures { HasSameWithin bounds.now.0 bounds.now.1 codes.now (map (arrange_back result.0) result.1.now) }
+{
+    let (order, keys) = serving(codes, runs, pattern);
+    (order, run::near(&order, keys, &bounds.0, &bounds.1))
 }

@@ -80,6 +80,11 @@ fn scan(alloc: Global, branch: &Branch, number: usize) -> Result<Quads, Memory> 
     branch.scan(alloc, &pattern)
 }
 
+fn count(alloc: Global, branch: &Branch, number: usize) -> Result<u64, Memory> {
+    let pattern = pattern_of(alloc, number)?;
+    Ok(branch.count(&pattern))
+}
+
 fn is_matched(pattern: usize, quad: usize) -> bool {
     match MATCHED.get(pattern) {
         Some(quads) => quads.contains(&quad),
@@ -215,6 +220,9 @@ impl Trial {
         for number in 0..MATCHED.len() {
             let found = scan(alloc, &self.branch, number)?;
             if !are_found(quads, number, self.steps.as_slice(), &found) {
+                return Ok(false);
+            }
+            if count(alloc, &self.branch, number)? != found.len() as u64 {
                 return Ok(false);
             }
         }

@@ -9,6 +9,6 @@ pub returns : goal.returns
 returns c =
     let pattern = c.args.pattern.now in
     c.in_ok-found.ensures
-    ∙ c.within-near.ensures
+    ∙ c.within-near.ensures.added
     ∙ ap (λ es. filter (matches pattern) (kept_added es)) c.as_slice.ensures.value
     ∙ ap (filter (matches pattern)) (sym (content-kept c.self.inside.patterns.items c.self.inside.named.items c.self.invariant) ∙ ap content c.self.view_is)
