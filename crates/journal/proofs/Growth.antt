@@ -72,7 +72,7 @@ unfolding judged
 length-judged l J = length-judged_behind l [] J ∙ omega arith
 
 -- what was judged stays in front
-begins_with : (l : Limits) (p : List Judged) (J : List Entry) → (rest : List Judged) × (judged_behind l p J ≡ p ++ rest)
+pub begins_with : (l : Limits) (p : List Judged) (J : List Entry) → (rest : List Judged) × (judged_behind l p J ≡ p ++ rest)
 begins_with l p [] = ([], sym (append-nil p))
 begins_with l p (e ∷ es) =
     let more = begins_with l (p ++ judged_entry l p e ∷ []) es in

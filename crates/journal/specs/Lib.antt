@@ -1,6 +1,8 @@
 pub mod Alone
 pub mod Committed
 pub mod Conflicts
+pub mod Equality
+pub mod EqualityLaws
 pub mod Found
 pub mod Journal
 pub mod Laws
@@ -11,4 +13,5 @@ pub mod Notes
 pub mod Past
 pub mod Replies
 pub mod Serial
+pub mod SerialLaws
 pub mod Views

@@ -1,5 +1,6 @@
 //! Laws of journals, each as the contract of a function that does nothing.
 ghost use Rattle.journal.specs.Laws.{CommitsInTurn, CommittedInTurn, ConflictsInTurn, EachEntryIsJudgedOnce, LegalInTurn, OpenTransactionsInTurn, OwnChangesInTurn, PrefixesInTurn, ReplyAtTheEnd, ReplyReadsNoLaterEntry, TransactionIsAmongTheOpenOnes};
+ghost use Rattle.journal.specs.SerialLaws.{CommittedReadsAsIfAlone, DoneCommitReadsAsIfAlone, SerialJournalAgrees};
 
 /// An entry is judged by the entries before it, and no later one changes that.
 pub fn each_entry_is_judged_once()
@@ -57,4 +58,22 @@ pub fn conflicts_in_turn()
 /// One more entry is counted among the accepted Commits where it is one.
 pub fn commits_in_turn()
     ensures { CommitsInTurn }
+{}
+
+/// A SERIALIZABLE transaction whose commit is done read as if it ran alone: each of its reads has the
+/// reply that it would get if the transaction's calls stood together at the commit.
+pub fn committed_reads_as_if_alone()
+    ensures { CommittedReadsAsIfAlone }
+{}
+
+/// The same of a commit that is added to a journal with the reply that it is done.
+pub fn done_commit_reads_as_if_alone()
+    ensures { DoneCommitReadsAsIfAlone }
+{}
+
+/// Where all accepted Begins are SERIALIZABLE and each Step names a READ_COMMITTED transaction, the
+/// serial journal agrees with the journal: each committed transaction is one block at its Commit, every
+/// kept entry has the reply that it has in the journal, and the content in the end is the same.
+pub fn serial_journal_agrees()
+    ensures { SerialJournalAgrees }
 {}

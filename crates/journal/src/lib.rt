@@ -5,6 +5,7 @@
 #![tactic(auto)]
 
 mod ask;
+mod compared;
 mod entry;
 mod fault;
 mod laws;
@@ -20,9 +21,10 @@ pub use ask::{Ask, Graphs};
 pub use entry::{Entry, Mark};
 pub use fault::{JournalFull, StoreFault};
 pub use laws::{
-    commits_in_turn, committed_in_turn, conflicts_in_turn, each_entry_is_judged_once,
-    legal_in_turn, open_transactions_in_turn, own_changes_in_turn, prefixes_in_turn,
-    reply_at_the_end, reply_reads_no_later_entry, transaction_is_among_the_open_ones,
+    commits_in_turn, committed_in_turn, committed_reads_as_if_alone, conflicts_in_turn,
+    done_commit_reads_as_if_alone, each_entry_is_judged_once, legal_in_turn,
+    open_transactions_in_turn, own_changes_in_turn, prefixes_in_turn, reply_at_the_end,
+    reply_reads_no_later_entry, serial_journal_agrees, transaction_is_among_the_open_ones,
 };
 pub use level::Level;
 pub use limits::Limits;

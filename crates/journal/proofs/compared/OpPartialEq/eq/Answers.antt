@@ -1,0 +1,6 @@
+use Rattle.query_model.specs.EqualityLaws.{told}
+use Rattle.journal.specs.EqualityLaws.{op_decides}
+use Rattle.journal.proofs.compared.OpPartialEq.eq.Goals as goal
+
+pub returns-clause-same : goal.returns-clause-same
+returns-clause-same c = told c.is_same.ensures (op_decides c.args.self.now c.args.other.now)
