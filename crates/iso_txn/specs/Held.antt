@@ -1,0 +1,14 @@
+-- What is true of every repository.
+use Rattle.std.specs.Prelude.{◌≡◌, ℕ, ◌≤◌, List, length}
+use Rattle.journal.specs.declared.entry.Entry.{Entry}
+use Rattle.journal.specs.declared.limits.Limits.{Limits}
+use Rattle.iso_txn.specs.Kept.{AreBelowSerializable, Kept, Standing}
+use Rattle.iso_txn.specs.Repository.{AreAllowed}
+
+-- the limits are allowed, the entries are counted and fit, what is kept stands for the journal, and no open transaction is SERIALIZABLE
+pub record Holds (limits : Limits) (count : ℕ) (journal : List Entry) (kept : Kept) : Type 0 where
+  pub allowed : AreAllowed limits
+  pub count_is : count ≡ length journal
+  pub fits : length journal ≤ limits.places
+  pub stands : Standing limits journal kept
+  pub below : AreBelowSerializable kept.open_txns
