@@ -26,7 +26,7 @@ use Rattle.change_set.proofs.Contents.{has-filter, is_in_after}
 use Rattle.branch.specs.Layers.{layered, effect_above}
 use Rattle.branch.specs.Counts.{is_matched, is_matched_in, is_named_in, counted_of}
 use Rattle.branch.specs.declared.counts.Counted.TheVariants.{Spared}
-use Rattle.branch.proofs.LayerLemmas.{has-layered, sorted-layered}
+use Rattle.branch.proofs.LayerLemmas.{everything, filter-everything, has-layered, sorted-layered}
 
 -- ---- tests of lists
 
@@ -379,3 +379,20 @@ gained_is p base layers s spared lost gained most small e f g =
     ap (λ n. min (spared - lost + n) most) g
     ∙ still_sum (spared - lost) whole most
     ∙ ap (λ n. min n most) (omega (arith, apart, lost_whole, e, few))
+
+-- ---- whether there is no quad
+
+-- no quad matches the pattern that gives no part exactly where there is none
+pub none_there : (quads : List Statement) (most : ℕ) → 1 ≤ most → min (length (filter (matches everything) quads)) most ≡ 0 → quads ≡ []
+none_there [] most l e = refl
+none_there (q ∷ qs) most l e = absurd (at (cases_lt (length (filter (matches everything) (q ∷ qs))) most))
+  where
+    some : 1 ≤ length (filter (matches everything) (q ∷ qs))
+    some = let n = ap length (filter-everything (q ∷ qs)) in omega (arith, n)
+
+    at : (length (filter (matches everything) (q ∷ qs)) < most) ⊎ (most ≤ length (filter (matches everything) (q ∷ qs))) → ⊥
+    at (inl m) = let n = small_min (length (filter (matches everything) (q ∷ qs))) most (omega arith) in omega (arith, n, e, some)
+    at (inr m) = let n = at_end (length (filter (matches everything) (q ∷ qs))) most m in omega (arith, n, e, l)
+
+pub none_counted : (quads : List Statement) (most : ℕ) → quads ≡ [] → min (length (filter (matches everything) quads)) most ≡ 0
+none_counted quads most e = ap (λ qs. min (length (filter (matches everything) qs)) most) e ∙ small_min 0 most (omega arith)

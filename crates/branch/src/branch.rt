@@ -1,4 +1,4 @@
-ghost use Rattle.std.specs.Prelude.{◌≡◌, ◌+◌, ◌-◌, ◌^◌, ◌≤◌, length, filter, min, IfOk, OnOk, OnErr};
+ghost use Rattle.std.specs.Prelude.{◌≡◌, ◌↔◌, ◌+◌, ◌-◌, ◌^◌, ◌≤◌, [], length, filter, min, IsTrue, IfOk, OnOk, OnErr};
 ghost use Rattle.std.specs.List.Sorted.{IsStrictlySortedBy};
 ghost use Rattle.rdf_term.specs.Matching.{matches};
 ghost use Rattle.rdf_term.specs.Order.{quad_cmp};
@@ -153,6 +153,13 @@ impl Branch {
         ensures { result ≡ min (length (filter (matches pattern.now) self.now.quads)) (2 ^ 64 - 1) }
     {
         counts::count(&self.base, self.layers.as_slice(), pattern)
+    }
+
+    /// Whether the content has no quad. It takes no memory.
+    pub fn is_empty(&self) -> bool
+        ensures { IsTrue result ↔ (self.now.quads ≡ []) }
+    {
+        self.count(&everything()) == 0
     }
 
     /// An index with the content, in the orders of the base.
