@@ -1,6 +1,5 @@
 -- What parameters select is fixed.
-use Rattle.std.proofs.Common.{◌≡◌, ℕ, ◌+◌, ◌<◌, zero, suc, inl, inr, append-nil, List, [], ◌∷◌, ◌++◌, length, take, fold, get_or, Result, Ok, Err, IfOk, ◌==◌, Bool, true, false, Option, Some, None, IsTrue, refl, sym, ap, ◌∙◌, subst, arith, encode_utf8_all, codes}
-use Rattle.std.specs.Str.{all_scalars}
+use Rattle.std.proofs.Common.{◌≡◌, ℕ, ◌+◌, ◌<◌, zero, suc, inl, inr, append-nil, List, [], ◌∷◌, ◌++◌, length, take, fold, get_or, Result, Ok, Err, IfOk, ◌==◌, Bool, true, false, Option, Some, None, refl, sym, ap, ◌∙◌, subst, arith, encode_utf8_all, codes}
 use Rattle.std.proofs.lemmas.Str.{encodes_same}
 use Rattle.std.proofs.lemmas.List.Sums.{fold-append}
 use Rattle.rdf_term.specs.declared.term.Term.{Term}
@@ -8,7 +7,7 @@ use Rattle.rdf_term.specs.declared.term.Term.TheVariants.{Iri, Blank, Plain, Tag
 use Rattle.rdf_term.specs.declared.graph.Graph.{Graph}
 use Rattle.rdf_term.specs.declared.graph.Graph.TheVariants.{Absent, Named}
 use Rattle.nquads_line.specs.Grammar.{IsTerm, IsShortTerm}
-use Rattle.nquads_line.specs.Terms.{IsTermText, IsString, IsTypedText, IsIriRef, IsTaggedText}
+use Rattle.nquads_line.specs.Terms.{IsString, IsTypedText}
 use Rattle.rdf_term.specs.Validity.{xsd_string}
 use Rattle.nquads_line.proofs.LineLemmas.{term_once}
 use Rattle.api_parts.specs.declared.selection.Selection.{Selection}
@@ -26,7 +25,7 @@ use Rattle.std.proofs.lemmas.List.Elements.{filter_map-append}
 use Rattle.std.proofs.Math.Seq.{take-suc}
 use Rattle.api_parts.specs.Laws.{BadOrSelection}
 use Rattle.api_parts.specs.Parameters.{value_of, values_of}
-use Rattle.api_parts.specs.Selections.{name_of, IsOfKind, IsTermValue, IsPart, IsBadPart, IsContext, AreContexts, none, one, IsContexts, IsSelection, IsFirstBad, IsBad, IsBadContexts, with_graph, each_once}
+use Rattle.api_parts.specs.Selections.{IsOfKind, IsTermValue, IsPart, IsContext, AreContexts, none, one, IsContexts, IsSelection, IsFirstBad, IsBad, with_graph, each_once}
 
 -- one term
 

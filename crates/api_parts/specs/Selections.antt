@@ -1,5 +1,5 @@
 -- What the parameters subj, pred, obj and context select, and which of them is bad.
-use Rattle.std.specs.Prelude.{◌≡◌, Bool, ℕ, ◌⊎◌, List, [], ◌∷◌, ◌++◌, Option, Some, None, if◌then◌else◌, fold, filter, map, codes}
+use Rattle.std.specs.Prelude.{◌≡◌, ℕ, List, [], ◌∷◌, ◌++◌, Option, Some, None, if◌then◌else◌, fold, filter, map, codes}
 use Rattle.std.specs.List.{list_any}
 use Rattle.std.specs.Ordering.{eq_by_cmp}
 use Rattle.rdf_term.specs.declared.term.Term.{Term}

@@ -12,5 +12,5 @@ mod writes;
 
 pub use laws::{one_first_bad, one_selection};
 pub use selection::{Graphs, Parameter, ParameterFault, Selection, read_contexts, read_selection};
-pub use target::{Octets, Parameters, parameters, path_of, query_of};
-pub use writes::{SelectedPatterns, additions, patterns_of, removals, replacements};
+pub use target::{Octets, Parameters, parameters, path_of, query_of, values_of};
+pub use writes::{SelectedPatterns, additions, deletions, patterns_of, removals, replacements};

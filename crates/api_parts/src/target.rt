@@ -88,7 +88,7 @@ fn push_value(
 }
 
 /// The values of the parameters of a name, in order.
-pub(crate) fn values_of(
+pub fn values_of(
     alloc: Global,
     parameters: &[(Octets, Octets)],
     name: &[u8],

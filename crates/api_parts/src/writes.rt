@@ -1,10 +1,10 @@
 //! The changes that writes make, and the patterns that a selection has.
 ghost use Rattle.std.specs.Prelude.{◌≡◌, ◌∷◌, [], ◌++◌, map, All, IfOk, OnOk};
+ghost use Rattle.std.specs.List.{flat_map};
 ghost use Rattle.rdf_term.specs.Terms.{IsGraph};
 ghost use Rattle.rdf_term.specs.declared.pattern.GraphPick.TheVariants as picks;
-ghost use Rattle.change_set.specs.declared.change.Change.TheVariants.{Add, RemoveMatching};
 ghost use Rattle.api_parts.specs.Selections.{picks_of, patterns_of};
-ghost use Rattle.api_parts.specs.Writes.{in_graph, placed, additions, removals, everything_in, replacements};
+ghost use Rattle.api_parts.specs.Writes.{in_graph, change_by, placed, additions, deletions, removals, everything_in, replacements};
 
 use crate::{Graphs, Selection};
 use change_set::{Change, Changes};
@@ -68,36 +68,71 @@ fn in_graph(alloc: Global, quad: &Quad, graph: &Graph) -> Result<Quad, Memory>
     }
 }
 
-/// Adds to a list of changes that a statement is added in each of these graphs.
-fn add_in(
+/// Whether statements are there after a write.
+#[derive(Clone, Copy)]
+pub(crate) enum Kept {
+    /// They are added.
+    Added,
+    /// They are removed.
+    Removed,
+}
+
+impl Kept {
+    /// The change that does so with a quad.
+    fn change(self, quad: Quad) -> Change
+        ensures { result ≡ change_by self quad }
+    {
+        match self {
+            Kept::Added => Change::Add(quad),
+            Kept::Removed => Change::Remove(quad),
+        }
+    }
+}
+
+/// Adds to a list of changes that a statement is added in each of these graphs, or removed from them.
+fn change_in(
     alloc: Global,
     changes: &mut Changes,
+    kept: Kept,
     contexts: &[Graph],
     quad: &Quad,
 ) -> Result<(), Memory>
     requires { All IsGraph contexts.now }
-    ensures { OnOk result (changes.new ≡ changes.old ++ map Add (map (in_graph quad.now) contexts.now)) }
+    ensures { OnOk result (changes.new ≡ changes.old ++ map (change_by kept) (map (in_graph quad.now) contexts.now)) }
 {
     for graph in contexts {
-        changes.push(Change::Add(in_graph(alloc, quad, graph)?))?;
+        changes.push(kept.change(in_graph(alloc, quad, graph)?))?;
     }
     Ok(())
 }
 
-/// Adds to a list of changes that a statement is added, in its own graph or in each context.
-fn add_placed(
+/// The same in the statement's own graph, or in each context.
+fn change_placed(
     alloc: Global,
     changes: &mut Changes,
+    kept: Kept,
     contexts: &[Graph],
     quad: Quad,
 ) -> Result<(), Memory>
     requires { All IsGraph contexts.now }
-    ensures { OnOk result (changes.new ≡ changes.old ++ map Add (placed contexts.now quad)) }
+    ensures { OnOk result (changes.new ≡ changes.old ++ map (change_by kept) (placed contexts.now quad)) }
 {
     if contexts.is_empty() {
-        return changes.push(Change::Add(quad));
+        return changes.push(kept.change(quad));
     }
-    add_in(alloc, changes, contexts, &quad)
+    change_in(alloc, changes, kept, contexts, &quad)
+}
+
+/// The changes that add or remove statements in their order.
+fn changes_of(alloc: Global, kept: Kept, contexts: &Graphs, quads: Quads) -> Result<Changes, Memory>
+    requires { All IsGraph contexts.now }
+    ensures { IfOk result (λ it. it ≡ map (change_by kept) (flat_map (placed contexts.now) quads)) }
+{
+    let mut changes = Changes::new(alloc);
+    for quad in quads.into_vec() {
+        change_placed(alloc, &mut changes, kept, contexts.as_slice(), quad)?;
+    }
+    Ok(changes)
 }
 
 /// The changes that add statements in their order, each in its own graph, or in each context.
@@ -105,11 +140,15 @@ pub fn additions(alloc: Global, contexts: &Graphs, quads: Quads) -> Result<Chang
     requires { All IsGraph contexts.now }
     ensures { IfOk result (λ it. it ≡ additions contexts.now quads) }
 {
-    let mut changes = Changes::new(alloc);
-    for quad in quads.into_vec() {
-        add_placed(alloc, &mut changes, contexts.as_slice(), quad)?;
-    }
-    Ok(changes)
+    changes_of(alloc, Kept::Added, contexts, quads)
+}
+
+/// The changes that remove statements in their order, each from its own graph, or from each context.
+pub fn deletions(alloc: Global, contexts: &Graphs, quads: Quads) -> Result<Changes, Memory>
+    requires { All IsGraph contexts.now }
+    ensures { IfOk result (λ it. it ≡ deletions contexts.now quads) }
+{
+    changes_of(alloc, Kept::Removed, contexts, quads)
 }
 
 /// The changes that remove everything in the contexts, or everything where there is none, and then

@@ -1,4 +1,11 @@
 pub mod BodyLemmas
+pub mod ChunkLemmas
+pub mod ChunkedLemmas
+pub mod FieldLemmas
+pub mod FrameExamples
 pub mod FrameLemmas
 pub mod HeadLemmas
+pub mod LineLemmas
+pub mod PlaceLemmas
 pub mod StreamLemmas
+pub mod TurnLemmas

@@ -1,8 +1,11 @@
 -- Lemmas on streams.
-use Rattle.std.proofs.Common.{◌≡◌, ℕ, ◌+◌, ◌-◌, ◌<◌, ◌≤◌, List, [], ◌++◌, length, take, drop, Option, Some, None, Result, Ok, sym, ap, ◌∙◌, refl, subst, arith, append_assoc, add-zero, length-take-le, length-drop, take-add, append-nil, drop_at, length-append, ◌∷◌, take-append-drop}
+use Rattle.std.proofs.Common.{◌≡◌, ℕ, ◌+◌, ◌<◌, ◌≤◌, List, [], ◌++◌, length, take, drop, Option, Some, None, Ok, Err, sym, ap, ◌∙◌, refl, arith, append_assoc, length-take-le, length-drop, take-add, append-nil, length-append, ◌∷◌, take-append-drop}
 use Rattle.std.proofs.lemmas.List.{take-append-le, take_at}
-use Rattle.std.specs.Io.KnownBytes.{Consumes, Keeps, IsAtEnd, ReadConsumes}
+use Rattle.std.specs.Io.KnownBytes.{Consumes, Keeps, IsAtEnd}
+use Rattle.http_frame.specs.Answers.{TakesBody}
 use Rattle.http_frame.specs.Streams.{IsStream, KeepsStream, Fills}
+use Rattle.http_frame.specs.declared.fault.FrameFault.TheVariants.{Truncated, ReadFault}
+use Rattle.http_frame.specs.declared.framing.Framing.TheVariants.{Length}
 
 pub consumes_told : (left left' : Option (List ℕ)) (bs rest : List ℕ) → Consumes left left' bs → left ≡ Some rest
     → (rest' : List ℕ) × (left' ≡ Some rest') × (rest ≡ bs ++ rest')
@@ -59,29 +62,39 @@ part_of_part xs ys p q e h =
     let t : take (length p) xs ≡ p = sym (take-append-le (length p) xs ys h) ∙ ap (take (length p)) e ∙ take_at p q (length p) refl in
     sym (take-append-drop (length p) xs) ∙ ap (λ z. z ++ drop (length p) xs) t
 
--- the first part of the stream was taken
-pub took_part : (body held b rest : List ℕ) (count : ℕ) → length body ≡ count → b ≡ (body ++ held) ++ rest
-    → (count ≤ length b) × (body ≡ take count b) × (drop count b ≡ held ++ rest)
-took_part body held b rest count size e =
-    let whole : b ≡ body ++ (held ++ rest) = e ∙ append_assoc body held rest in
-    let long = simp length-append at (ap length whole) in
-    (omega arith, sym (take_at body (held ++ rest) count size) ∙ ap (take count) (sym whole), ap (drop count) whole ∙ drop_at body (held ++ rest) count size)
-
 -- the stream is what came and then what the buffer holds: what came is the whole body
 pub whole_held : (body held held' b : List ℕ) (left : Option (List ℕ)) (count : ℕ) → body ++ held' ≡ held → length body ≡ count
-    → IsStream held left b → (count ≤ length b) × (body ≡ take count b) × IsStream held' left (drop count b)
+    → IsStream held left b → TakesBody (Length count) b held' left (Ok body)
 whole_held body held held' b left count e size s =
-    let t = took_part body held' b s.0 count size (s.2 ∙ ap (λ (x : List ℕ). x ++ s.0) (sym e)) in
-    (t.0, t.1, (s.0, s.1, t.2))
+    (held' ++ s.0, (size, s.2 ∙ ap (λ (x : List ℕ). x ++ s.0) (sym e) ∙ append_assoc body held' s.0), (s.0, s.1, refl))
 
 -- a read behind the held bytes answered none: the stream ends with them
 pub ends_short : (held held' b : List ℕ) (left left' : Option (List ℕ)) (count : ℕ) → Fills held left held' left' 0
-    → IsStream held left b → length held < count → length b < count
+    → IsStream held left b → length held < count → TakesBody (Length count) b [] left' (Err Truncated)
 ends_short held held' b left left' count fills s few =
     let same = all_held held held' b left left' 0 fills refl (fills.same b s) in
-    omega (arith, ap length same.0)
+    (refl, omega (arith, ap length same.0))
+
+-- a read behind the bytes that came failed
+pub fails_short : (held b : List ℕ) (left left' : Option (List ℕ)) (count : ℕ) → Keeps left left' → IsStream held left b → length held < count
+    → TakesBody (Length count) b [] left' (Err ReadFault)
+fails_short held b left left' count keeps s few = (held, (s.0, keeps_told left left' s.0 keeps s.1, s.2), (refl, few))
 
 -- all bytes that are asked for came
 pub all_came : (body b : List ℕ) (left : Option (List ℕ)) (count : ℕ) → length body ≡ count → IsStream body left b
-    → (count ≤ length b) × (body ≡ take count b) × IsStream [] left (drop count b)
+    → TakesBody (Length count) b [] left (Ok body)
 all_came body b left count size s = whole_held body body [] b left count (append-nil body) size s
+
+-- a fill of no bytes leaves what is held
+pub fills_none : (held held' : List ℕ) (left left' : Option (List ℕ)) (n : ℕ) → Fills held left held' left' n → n ≡ 0 → held' ≡ held
+fills_none held held' left left' n fills none =
+    fills.grown.1 ∙ ap (λ x. held ++ x) (empty_of fills.grown.0 (fills.grown.2 ∙ none)) ∙ append-nil held
+
+-- what was held stands in front
+pub fills_front : (held held' : List ℕ) (left left' : Option (List ℕ)) (n : ℕ) → Fills held left held' left' n → take (length held) held' ≡ held
+fills_front held held' left left' n fills = ap (take (length held)) fills.grown.1 ∙ take_at held fills.grown.0 (length held) refl
+
+pub fills_within : (held held' : List ℕ) (left left' : Option (List ℕ)) (n size : ℕ) → Fills held left held' left' n → size ≡ length held → size ≤ length held'
+fills_within held held' left left' n size fills e =
+    let all = simp length-append at (ap length fills.grown.1) in
+    omega arith

@@ -1,6 +1,6 @@
 -- Fields by their names, and lists of tokens in their values (RFC 9110, sections 5.1 and 5.6.1).
 use Rattle.std.specs.Prelude.{ℕ, Bool, ◌&&◌, ◌||◌, ◌==◌, List, map, codes}
-use Rattle.std.specs.List.{list_any, slice_split}
+use Rattle.std.specs.List.{list_any, slice_split, filter}
 use Rattle.std.specs.Char.{to_ascii_lowercase}
 use Rattle.std.specs.Str.{bytes_eq}
 use Rattle.httparse.specs.Grammar.{trim_ows}
@@ -12,6 +12,10 @@ same_name a b = bytes_eq (map to_ascii_lowercase a) (map to_ascii_lowercase b)
 -- the field has this name
 abbrev pub is_named : List ℕ → (List ℕ × List ℕ) → Bool
 is_named name field = same_name field.0 name
+
+-- the values of the fields of this name, in their order
+abbrev pub values_of : List ℕ → List (List ℕ × List ℕ) → List (List ℕ)
+values_of name fields = map (λ (field : List ℕ × List ℕ). field.1) (filter (is_named name) fields)
 
 -- the element of a list is this token; white space around it and case don't count
 abbrev pub is_element : List ℕ → List ℕ → Bool

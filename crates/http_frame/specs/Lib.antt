@@ -1,11 +1,17 @@
 pub mod Answers
 pub mod Bodies
 pub mod Faults
+pub mod Chunks
 pub mod Fields
+pub mod Framing
 pub mod Frames
 pub mod Heads
 pub mod Laws
+pub mod Limits
 pub mod Messages
+pub mod Places
+pub mod Search
 pub mod State
 pub mod Streams
+pub mod Values
 pub mod Wire

@@ -3,6 +3,7 @@ use Rattle.std.specs.Prelude.{ℕ, Bool, true, false, List, [], ◌++◌, ◌==�
 use Rattle.std.specs.List.{flat_map}
 use Rattle.httparse.specs.Ascii.{crlf_bytes}
 use Rattle.http_frame.specs.Messages.{SeenResponse}
+use Rattle.http_frame.specs.declared.message.Head.{Head}
 
 -- the reason phrase of a status code
 abbrev pub reason : ℕ → List ℕ
@@ -45,6 +46,11 @@ abbrev pub framed : List ℕ → Bool → Bool → List ℕ
 framed body true closes = length_line (length body) ++ closing closes ++ body
 framed body false closes = closing closes
 
--- the bytes of a response; one of status 204 has neither length nor body, and neither has one that is to have none
-unfoldable pub wire : SeenResponse → Bool → Bool → List ℕ
-wire r closes bodiless = status_line r.status ++ field_lines r.fields ++ framed r.body (not (r.status == 204) && not bodiless) closes
+-- the bytes of a response to a request of this minor version; one of status 204 has neither length nor body, and neither has one
+-- that is to have none. No byte depends on the version, since each body that is sent has its length.
+unfoldable pub wire : SeenResponse → ℕ → Bool → Bool → List ℕ
+wire r minor closes bodiless = status_line r.status ++ field_lines r.fields ++ framed r.body (not (r.status == 204) && not bodiless) closes
+
+-- what is written before the body of a request is read that asks for it (RFC 9110, sections 10.1.1 and 15.2.1)
+abbrev pub continue_of : Head → List ℕ
+continue_of head = if head.expects then codes "HTTP/1.1 100 Continue" ++ crlf_bytes ++ crlf_bytes else []

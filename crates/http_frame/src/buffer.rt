@@ -3,12 +3,10 @@ ghost use Rattle.std.specs.Io.KnownBytes.{Keeps, ReadConsumes};
 ghost use Rattle.rdf_io.specs.Causes.{HasCause};
 ghost use Rattle.http_frame.specs.Streams.{IsStream, KeepsStream, Fills};
 
+use crate::limits::MOST_HEAD;
 use rdf_io::{Failed, Source};
 use std::alloc::{AllocError, Global};
 use std::marker::Model;
-
-/// The most bytes of a head, and of what a buffer holds.
-pub const MOST_HEAD: usize = 65_536;
 
 /// Bytes that came from a source and are not yet used. Contracts see them as their list.
 #[derive(Drop)]

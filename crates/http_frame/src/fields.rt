@@ -1,8 +1,9 @@
 //! Fields of heads, which names without case find (RFC 9110, section 5.1).
-ghost use Rattle.std.specs.Prelude.{◌≡◌, ◌∷◌, [], ℕ, List, count_by, find, option_copied, reverse};
+ghost use Rattle.std.specs.Prelude.{◌≡◌, ◌∷◌, [], ℕ, List, count_by, find, length, option_copied, reverse};
 ghost use Rattle.std.specs.List.{list_any, slice_split};
 ghost use Rattle.httparse.specs.Grammar.{is_ows, skip_ows, trim_ows};
-ghost use Rattle.http_frame.specs.Fields.{same_name, is_named, has_token, has_option, is_element};
+ghost use Rattle.http_frame.specs.Fields.{same_name, is_named, values_of, has_token, has_option, is_element};
+ghost use Rattle.http_frame.specs.Values.{AreValues};
 
 use rdf_term::Seq;
 
@@ -19,14 +20,32 @@ pub fn same_name(name: &[u8], wanted: &[u8]) -> bool
     name.eq_ignore_ascii_case(wanted)
 }
 
-/// How many fields have this name.
-pub fn count_named(fields: &[(Octets, Octets)], name: &[u8]) -> usize
+/// The values of the fields of one name.
+#[derive(Clone, Copy)]
+pub enum Values<'a> {
+    /// There is no such field.
+    None,
+    /// There is one, with this value.
+    One(&'a [u8]),
+    /// There are several.
+    More,
+}
+
+fn count(fields: &[(Octets, Octets)], name: &[u8]) -> usize
     ensures { result ≡ count_by (is_named name.now) fields.now }
 {
     fields
         .iter()
         .filter(|field| same_name(field.0.as_slice(), name))
         .count()
+}
+
+/// How many fields have this name.
+pub fn count_named(fields: &[(Octets, Octets)], name: &[u8]) -> usize
+    ensures fields { result ≡ count_by (is_named name.now) fields.now }
+    ensures values { result ≡ length (values_of name.now fields.now) }
+{
+    count(fields, name)
 }
 
 /// The first field of this name.
@@ -36,6 +55,22 @@ pub fn find_named<'a>(fields: &'a [(Octets, Octets)], name: &[u8]) -> Option<&'a
     fields
         .iter()
         .find(|field| same_name(field.0.as_slice(), name))
+}
+
+/// The values of the fields of this name.
+pub(crate) fn values_named<'a>(fields: &'a [(Octets, Octets)], name: &[u8]) -> Values<'a>
+    ensures { AreValues (values_of name.now fields.now) result }
+{
+    match find_named(fields, name) {
+        None => Values::None,
+        Some(field) => {
+            if count_named(fields, name) > 1 {
+                Values::More
+            } else {
+                Values::One(field.1.as_slice())
+            }
+        }
+    }
 }
 
 fn is_ows(byte: u8) -> bool

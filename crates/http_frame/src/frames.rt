@@ -1,14 +1,17 @@
-ghost use Rattle.std.specs.Prelude.{◌≡◌, ℕ, List, [], length, None, IfOk, IfErr, OnOk, IfSome};
+ghost use Rattle.std.specs.Prelude.{◌≡◌, ◌≢◌, ℕ, List, [], length, None, Err, IfOk, IfErr, OnOk, IfSome};
 ghost use Rattle.http_frame.specs.State.{FramesState};
 ghost use Rattle.http_frame.specs.Faults.{FaultsFor, SoundFor};
 ghost use Rattle.http_frame.specs.Streams.{IsStream};
-ghost use Rattle.http_frame.specs.Heads.{NextHead};
-ghost use Rattle.http_frame.specs.Answers.{NextBody};
+ghost use Rattle.http_frame.specs.Answers.{NextHead, TakesBody, NextBody};
+ghost use Rattle.http_frame.specs.declared.fault.FrameFault.TheVariants.{ReadFault};
 
-use crate::body::{declared, take_body};
 use crate::buffer::Buffer;
+use crate::chunked_body::take_chunked;
 use crate::fault::FrameFault;
+use crate::fields::Octets;
+use crate::framing::{Framing, framing_of};
 use crate::head::cut_head;
+use crate::length_body::take_length;
 use crate::message::{Head, Request};
 use crate::search::FIELD_ROOM;
 use httparse::spans::{EMPTY_HEADER_SPAN, HeaderSpan};
@@ -38,7 +41,25 @@ impl Model for Frames {
     ghost invariant = { λ s. length s.spans.items ≡ 1024 };
 }
 
-/// Reads the body that the head declares.
+/// Takes a body off the stream.
+fn take_body<S: Source>(
+    alloc: Global,
+    buffer: &mut Buffer,
+    source: &mut S,
+    framing: Framing,
+) -> Result<Octets, FrameFault>
+    ensures body { (b : List ℕ) → IsStream buffer.old (S.left source.old) b
+        → TakesBody framing b buffer.new (S.left source.new) result }
+    ensures cause { FaultsFor (S.faults source.old) (S.faults source.new) result }
+    ensures sound { SoundFor (S.sound source.old) (S.sound source.new) result }
+{
+    match framing {
+        Framing::Length(count) => take_length(alloc, buffer, source, count),
+        Framing::Chunked => take_chunked(alloc, buffer, source),
+    }
+}
+
+/// Reads the body behind a head.
 fn cut_body<S: Source>(
     alloc: Global,
     buffer: &mut Buffer,
@@ -50,9 +71,9 @@ fn cut_body<S: Source>(
     ensures cause { FaultsFor (S.faults source.old) (S.faults source.new) result }
     ensures sound { SoundFor (S.sound source.old) (S.sound source.new) result }
 {
-    match declared(&head.fields) {
-        None => Err(FrameFault::BadBody),
-        Some(count) => match take_body(alloc, buffer, source, count) {
+    match framing_of(head.minor, &head.fields) {
+        Err(shown) => Err(shown),
+        Ok(framing) => match take_body(alloc, buffer, source, framing) {
             Ok(body) => Ok(Request {
                 head,
                 body: Bytes::from_vec(body.into_vec()),
@@ -77,12 +98,13 @@ impl Frames {
     }
 
     /// Cuts the next head off the stream. `None` means that the stream ended, with no byte of a further
-    /// request.
+    /// request. A head that shows a fault by itself is answered that fault.
     pub fn next_head<S: Source>(&mut self, source: &mut S) -> Result<Option<Head>, FrameFault>
         ensures head { self.old.fault ≡ None → (b : List ℕ) → IsStream self.old.held (S.left source.old) b
             → NextHead b self.new.held (S.left source.new) result }
         ensures cause { self.old.fault ≡ None → FaultsFor (S.faults source.old) (S.faults source.new) result }
-        ensures sound { self.old.fault ≡ None → SoundFor (S.sound source.old) (S.sound source.new) result }
+        ensures sound { S.sound source.old → S.sound source.new }
+        ensures no_fault { self.old.fault ≡ None → S.sound source.old → result ≢ Err ReadFault }
 
         // A fault is kept, and is answered again at every later call.
         ensures kept { OnOk result (self.new.fault ≡ None) }
@@ -103,6 +125,9 @@ impl Frames {
     }
 
     /// Takes the body of a head off the stream, which begins with it.
+    ///
+    /// Where `head.expects`, a sender may wait for `100 Continue` before it sends the body
+    /// ([`continue_of`](crate::continue_of)).
     pub fn read_body<S: Source>(
         &mut self,
         head: Head,
@@ -111,7 +136,8 @@ impl Frames {
         ensures body { self.old.fault ≡ None → (b : List ℕ) → IsStream self.old.held (S.left source.old) b
             → NextBody head b self.new.held (S.left source.new) result }
         ensures cause { self.old.fault ≡ None → FaultsFor (S.faults source.old) (S.faults source.new) result }
-        ensures sound { self.old.fault ≡ None → SoundFor (S.sound source.old) (S.sound source.new) result }
+        ensures sound { S.sound source.old → S.sound source.new }
+        ensures no_fault { self.old.fault ≡ None → S.sound source.old → result ≢ Err ReadFault }
 
         // A fault is kept, and is answered again at every later call.
         ensures kept { OnOk result (self.new.fault ≡ None) }

@@ -1,15 +1,19 @@
 //! Heads of requests.
-ghost use Rattle.std.specs.Prelude.{◌≡◌, ℕ, ◌≤◌, List, length, take, map, IfOk, All, IsUtf8, encode_utf8_all};
+ghost use Rattle.std.specs.Prelude.{◌≡◌, ℕ, ◌≤◌, List, length, take, drop, map, IfOk, IfErr, OnOk, Ok, Err, All, IsUtf8, encode_utf8_all};
 ghost use Rattle.httparse.specs.Grammar.{RequestHead};
 ghost use Rattle.httparse.specs.Spans.{IsRequestOf, IsRequestAt, IsRequestWithin, IsHeaderWithin, header_bytes};
-ghost use Rattle.http_frame.specs.Faults.{FaultsFor, SoundFor};
+ghost use Rattle.http_frame.specs.Answers.{NextHead};
+ghost use Rattle.http_frame.specs.Faults.{FaultsFor, SoundFor, IsShown};
 ghost use Rattle.http_frame.specs.Fields.{closes};
-ghost use Rattle.http_frame.specs.Heads.{Shows, NextHead};
+ghost use Rattle.http_frame.specs.Framing.{framing};
+ghost use Rattle.http_frame.specs.Heads.{Shows};
 ghost use Rattle.http_frame.specs.Streams.{IsStream};
+ghost use Rattle.http_frame.specs.declared.framing.Framing.{Framing};
 
 use crate::buffer::Buffer;
 use crate::fault::FrameFault;
 use crate::fields::{Fields, Octets, has_option};
+use crate::framing::{expects, framing_of};
 use crate::message::Head;
 use crate::search::{Search, find_head};
 use httparse::spans::{HeaderSpan, RequestSpans};
@@ -77,17 +81,54 @@ fn head_of(
     let method = text(alloc, found.method.of(buf))?;
     let target = text(alloc, found.path.of(buf))?;
     let fields = fields_of(alloc, buf, spans, found.headers, found.len)?;
+    let expects = expects(found.version, &fields);
     let closes = closes(found.version, &fields);
     Ok(Head {
         method,
         target,
         minor: found.version,
         fields,
+        expects,
         closes,
     })
 }
 
-/// Cuts the next head off the stream.
+/// The head, where it shows no fault by itself.
+fn admitted(head: Head) -> Result<Head, FrameFault>
+    ensures head { IfOk result (λ it. it ≡ head) }
+    ensures framed { OnOk result ((framed_as : Framing) × (framing head ≡ Ok framed_as)) }
+    ensures fault { IfErr result (λ fault. framing head ≡ Err fault) }
+    ensures shown { IfErr result IsShown }
+{
+    match framing_of(head.minor, &head.fields) {
+        Ok(_) => Ok(head),
+        Err(fault) => Err(fault),
+    }
+}
+
+/// Cuts the head off that was found.
+fn take_found(
+    alloc: Global,
+    buffer: &mut Buffer,
+    spans: &[HeaderSpan],
+    found: RequestSpans,
+) -> Result<Head, Memory>
+    requires reads { IsRequestOf buffer.old spans.now found }
+    requires within { IsRequestWithin buffer.old spans.now found }
+    ensures head { IfOk result (λ head. (h : RequestHead) → IsRequestAt buffer.old spans.now found h → Shows h head) }
+    ensures rest { OnOk result (buffer.new ≡ drop found.len buffer.old) }
+    ensures room { OnOk result (length buffer.old ≤ 65536) }
+{
+    match head_of(alloc, buffer.as_slice(), spans, found) {
+        Ok(head) => {
+            buffer.consume(found.len);
+            Ok(head)
+        }
+        Err(memory) => Err(memory),
+    }
+}
+
+/// Cuts the next head off the stream, unless it shows a fault.
 pub fn cut_head<S: Source>(
     alloc: Global,
     buffer: &mut Buffer,
@@ -104,11 +145,11 @@ pub fn cut_head<S: Source>(
         Err(_) => Err(FrameFault::ReadFault),
         Ok(Search::End) => Ok(None),
         Ok(Search::Bad) => Err(FrameFault::BadHead),
-        Ok(Search::Found(found)) => match head_of(alloc, buffer.as_slice(), spans, found) {
-            Ok(head) => {
-                buffer.consume(found.len);
-                Ok(Some(head))
-            }
+        Ok(Search::Found(found)) => match take_found(alloc, buffer, spans, found) {
+            Ok(head) => match admitted(head) {
+                Ok(head) => Ok(Some(head)),
+                Err(fault) => Err(fault),
+            },
             Err(_) => Err(FrameFault::Memory),
         },
     }

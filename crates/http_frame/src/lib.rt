@@ -4,13 +4,18 @@
 //! nothing, a request, or a refusal. [`Frames`] reads it and [`write_response`] writes the answer.
 #![tactic(auto)]
 
-mod body;
 mod buffer;
+mod chunk;
+mod chunked_body;
 mod fault;
 mod fields;
 mod frames;
+mod framing;
 mod head;
 mod laws;
+mod length_body;
+mod limits;
+mod lines;
 mod message;
 mod search;
 mod wire;
@@ -18,6 +23,6 @@ mod wire;
 pub use fault::FrameFault;
 pub use fields::{Fields, Octets, count_named, find_named, same_name, trim_ows};
 pub use frames::Frames;
-pub use laws::frames_are_determined;
+pub use laws::{frames_are_determined, heads_and_bodies_are_frames};
 pub use message::{Head, Request, Response};
-pub use wire::write_response;
+pub use wire::{continue_of, write_response};

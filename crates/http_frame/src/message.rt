@@ -13,6 +13,9 @@ pub struct Head {
     pub minor: u8,
     /// The fields in the order of the head.
     pub fields: Fields,
+    /// Whether the request asks for `100 Continue` before its body is read, and shows no fault by itself
+    /// (RFC 9110, section 10.1.1).
+    pub expects: bool,
     /// Whether the connection ends after the response (RFC 9112, section 9.6).
     pub closes: bool,
 }

@@ -1,12 +1,11 @@
 //! Responses as bytes.
 ghost use Rattle.std.specs.Prelude.{◌≡◌, ◌++◌, length, OnOk, OnErr, decimal};
 ghost use Rattle.rdf_term.specs.Writing.{Appends};
-ghost use Rattle.http_frame.specs.Wire.{reason, status_line, field_line, field_lines, length_line, closing, framed, wire};
+ghost use Rattle.http_frame.specs.Wire.{reason, status_line, field_line, field_lines, length_line, closing, framed, wire, continue_of};
 
 use crate::fields::{Fields, Octets};
-use crate::message::Response;
+use crate::message::{Head, Response};
 use rdf_term::{Bytes, Memory};
-use std::alloc::Global;
 
 /// The reason phrase of a status code; a code that is not listed has an empty one.
 fn reason(status: u16) -> &'static [u8]
@@ -31,18 +30,17 @@ fn reason(status: u16) -> &'static [u8]
     }
 }
 
-fn put_number(alloc: Global, number: usize, out: &mut Bytes) -> Result<(), Memory>
+fn put_number(number: u64, out: &mut Bytes) -> Result<(), Memory>
     ensures { Appends result out.old.items out.new.items (decimal number) }
 {
-    let digits = number.to_string(alloc)?;
-    out.append(digits.as_bytes())
+    out.append_decimal(number)
 }
 
-fn put_status_line(alloc: Global, status: u16, out: &mut Bytes) -> Result<(), Memory>
+fn put_status_line(status: u16, out: &mut Bytes) -> Result<(), Memory>
     ensures { Appends result out.old.items out.new.items (status_line status) }
 {
     out.append(b"HTTP/1.1 ")?;
-    put_number(alloc, status as usize, out)?;
+    put_number(u64::from(status), out)?;
     out.append(b" ")?;
     out.append(reason(status))?;
     out.append(b"\r\n")
@@ -66,11 +64,11 @@ fn put_fields(fields: &Fields, out: &mut Bytes) -> Result<(), Memory>
     Ok(())
 }
 
-fn put_length(alloc: Global, length: usize, out: &mut Bytes) -> Result<(), Memory>
+fn put_length(length: usize, out: &mut Bytes) -> Result<(), Memory>
     ensures { Appends result out.old.items out.new.items (length_line length) }
 {
     out.append(b"Content-Length: ")?;
-    put_number(alloc, length, out)?;
+    put_number(length as u64, out)?;
     out.append(b"\r\n")
 }
 
@@ -84,25 +82,19 @@ fn closing(closes: bool) -> &'static [u8]
     }
 }
 
-fn put_with_body(alloc: Global, body: &[u8], closes: bool, out: &mut Bytes) -> Result<(), Memory>
+fn put_with_body(body: &[u8], closes: bool, out: &mut Bytes) -> Result<(), Memory>
     ensures { Appends result out.old.items out.new.items (length_line (length body.now) ++ closing closes ++ body.now) }
 {
-    put_length(alloc, body.len(), out)?;
+    put_length(body.len(), out)?;
     out.append(closing(closes))?;
     out.append(body)
 }
 
-fn put_framed(
-    alloc: Global,
-    body: &[u8],
-    has_body: bool,
-    closes: bool,
-    out: &mut Bytes,
-) -> Result<(), Memory>
+fn put_framed(body: &[u8], has_body: bool, closes: bool, out: &mut Bytes) -> Result<(), Memory>
     ensures { Appends result out.old.items out.new.items (framed body.now has_body closes) }
 {
     if has_body {
-        put_with_body(alloc, body, closes, out)
+        put_with_body(body, closes, out)
     } else {
         out.append(closing(closes))
     }
@@ -110,38 +102,51 @@ fn put_framed(
 
 #[tactic(auto, unfolding(crate::specs::Wire::wire))]
 fn put_response(
-    alloc: Global,
     response: &Response,
+    minor: u8,
     closes: bool,
     bodiless: bool,
     out: &mut Bytes,
 ) -> Result<(), Memory>
-    ensures { Appends result out.old.items out.new.items (wire response.now closes bodiless) }
+    ensures { Appends result out.old.items out.new.items (wire response.now minor closes bodiless) }
 {
-    put_status_line(alloc, response.status, out)?;
+    put_status_line(response.status, out)?;
     put_fields(&response.fields, out)?;
     let has_body = response.status != 204 && !bodiless;
-    put_framed(alloc, response.body.as_slice(), has_body, closes, out)
+    put_framed(response.body.as_slice(), has_body, closes, out)
 }
 
-/// Appends the bytes of a response. `closes` says that the connection ends after it, `bodiless` that it
-/// answers a request whose response has no body, as one to HEAD. Without memory `out` stays as it was.
+/// Appends the bytes of a response to a request of this minor version. `closes` says that the connection
+/// ends after it, `bodiless` that it answers a request whose response has no body, as one to HEAD. Each
+/// body has its length, so the version changes nothing. Without memory `out` stays as it was.
 pub fn write_response(
-    alloc: Global,
     response: &Response,
+    minor: u8,
     closes: bool,
     bodiless: bool,
     out: &mut Bytes,
 ) -> Result<(), Memory>
-    ensures ok { OnOk result (out.new.items ≡ out.old.items ++ wire response.now closes bodiless) }
+    ensures ok { OnOk result (out.new.items ≡ out.old.items ++ wire response.now minor closes bodiless) }
     ensures memory { OnErr result (out.new.items ≡ out.old.items) }
 {
     let start = out.len();
-    match put_response(alloc, response, closes, bodiless, out) {
+    match put_response(response, minor, closes, bodiless, out) {
         Ok(()) => Ok(()),
         Err(memory) => {
             out.truncate(start);
             Err(memory)
         }
+    }
+}
+
+/// What is written before the body of a request is read: `100 Continue` for one that asks for it, and
+/// nothing for another (RFC 9110, section 15.2.1).
+pub fn continue_of(head: &Head) -> &'static [u8]
+    ensures { result.now ≡ continue_of head.now }
+{
+    if head.expects {
+        b"HTTP/1.1 100 Continue\r\n\r\n"
+    } else {
+        b""
     }
 }

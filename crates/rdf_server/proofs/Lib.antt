@@ -1,4 +1,3 @@
-pub mod NextLemmas
 pub mod OutcomeLemmas
 pub mod RepositoryLemmas
 pub mod SendLemmas

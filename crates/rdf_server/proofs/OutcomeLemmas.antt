@@ -1,5 +1,5 @@
 -- A request has one answer.
-use Rattle.std.proofs.Common.{◌≡◌, ◌⊎◌, ℕ, List, ◌++◌, codes, ap, sym, ◌∙◌, refl, inl, inr, subst}
+use Rattle.std.proofs.Common.{◌≡◌, ◌⊎◌, ℕ, List, ◌++◌, codes, ap, sym, ◌∙◌, inl, inr, subst}
 use Rattle.rdf_term.specs.Statement.{Statement}
 use Rattle.rdf_term.specs.declared.graph.Graph.{Graph}
 use Rattle.change_set.specs.declared.change.Change.{Change}

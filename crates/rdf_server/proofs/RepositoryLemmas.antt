@@ -1,8 +1,8 @@
 -- What a repository holds and what is selected of it.
-use Rattle.std.proofs.Common.{◌≡◌, Bool, true, false, ◌&&◌, ◌||◌, List, [], ◌∷◌, ◌++◌, filter, refl, sym, ap, subst, ◌∙◌}
+use Rattle.std.proofs.Common.{◌≡◌, Bool, true, false, ◌&&◌, ◌||◌, List, [], ◌∷◌, None, length, map, filter, refl, sym, ap, subst, ◌∙◌, arith}
 use Rattle.std.specs.List.{flat_map, list_any}
 use Rattle.std.specs.List.Sorted.{IsStrictlySortedBy}
-use Rattle.std.specs.Ordering.{eq_by_cmp}
+use Rattle.std.specs.Ordering.{eq_by_cmp, is_eq}
 use Rattle.std.proofs.lemmas.List.Folds.{list_any-append}
 use Rattle.std.proofs.lemmas.List.Kept.{IsStrictlySortedBy-filter}
 use Rattle.rdf_term.specs.Statement.{Statement}
@@ -11,10 +11,20 @@ use Rattle.rdf_term.specs.OrderLaws.{quad_total, quad_exact}
 use Rattle.rdf_term.specs.Sets.{in_order}
 use Rattle.rdf_term.specs.Matching.{matches}
 use Rattle.rdf_term.specs.declared.pattern.Pattern.{Pattern}
-use Rattle.rdf_term.proofs.SetLemmas.{has, sorted_set-is}
+use Rattle.rdf_term.specs.declared.graph.Graph.{Graph}
+use Rattle.rdf_term.specs.declared.pattern.GraphPick.TheVariants as picks
+use Rattle.rdf_term.proofs.SetLemmas.{has, sorted_set-is, sorted_set-sorted}
 use Rattle.change_set.specs.declared.change.Change.{Change}
-use Rattle.change_set.specs.Content.{applied, SameChanges}
-use Rattle.change_set.proofs.Contents.{has-filter, sorted-applied, applied-same}
+use Rattle.change_set.specs.declared.change.Change.TheVariants.{Add, RemoveMatching}
+use Rattle.change_set.specs.declared.effect.Effect.TheVariants.{Removed}
+use Rattle.change_set.specs.declared.effect.Mark.TheVariants as mark
+use Rattle.change_set.specs.Content.{applied, last_effect, SameChanges}
+use Rattle.change_set.proofs.Effects.{over, effect_where, last_effect-append, marked_alone, removal_alone}
+use Rattle.change_set.proofs.Contents.{has-filter, has-applied, is_in_after, sorted-applied, applied-same}
+use Rattle.api_parts.specs.Writes.{additions, replacements, placed}
+use Rattle.rdf_server.specs.Answers.{written_as}
+use Rattle.rdf_server.specs.declared.action.Writing.{Writing}
+use Rattle.rdf_server.specs.declared.action.Writing.TheVariants.{Adds, Replaces}
 
 none : (b : Bool) → false ≡ (b && false)
 none true = refl
@@ -45,3 +55,57 @@ pushed base after set changes same is = is ∙ applied-same base set changes sam
 
 pub ascending : (base after : List Statement) (set : List Change) → after ≡ applied base set → IsStrictlySortedBy quad_cmp after
 ascending base after set is = subst (IsStrictlySortedBy quad_cmp) (sym is) (sorted-applied base set)
+
+-- ---- a first document
+
+pub ascending_set : (quads set : List Statement) → set ≡ in_order quads → IsStrictlySortedBy quad_cmp set
+ascending_set quads set is = subst (IsStrictlySortedBy quad_cmp) (sym is) (sorted_set-sorted quad_total quad_exact quads)
+
+adds-effect : (qs : List Statement) (q : Statement) → last_effect (map Add qs) q ≡ effect_where (has quad_cmp qs q) mark.Adds
+adds-effect [] q = refl
+adds-effect (k ∷ qs) q =
+    last_effect-append (Add k ∷ []) (map Add qs) q
+    ∙ (λ i. over (adds-effect qs q i) (marked_alone k mark.Adds q i))
+    ∙ at (is_eq (quad_cmp q k)) (has quad_cmp qs q)
+  where
+    at : (a b : Bool) → over (effect_where b mark.Adds) (effect_where a mark.Adds) ≡ effect_where (a || b) mark.Adds
+    at true true = refl
+    at true false = refl
+    at false true = refl
+    at false false = refl
+
+in_their_graphs : (quads : List Statement) → flat_map (placed []) quads ≡ quads
+in_their_graphs [] = refl
+in_their_graphs (q ∷ qs) = ap (λ rest. q ∷ rest) (in_their_graphs qs)
+
+additions-effect : (quads : List Statement) (q : Statement) → last_effect (additions [] quads) q ≡ effect_where (has quad_cmp quads q) mark.Adds
+additions-effect quads q = ap (λ qs. last_effect (map Add qs) q) (in_their_graphs quads) ∙ adds-effect quads q
+
+everything : Pattern
+everything = record { s = None; p = None; o = None; c = picks.Any }
+
+replacements-effect : (quads : List Statement) (q : Statement) → last_effect (replacements [] quads) q ≡ over (effect_where (has quad_cmp quads q) mark.Adds) Removed
+unfolding everything
+replacements-effect quads q =
+    last_effect-append (RemoveMatching everything ∷ []) (additions [] quads) q
+    ∙ (λ i. over (additions-effect quads q i) (removal_alone everything q i))
+
+-- what a document makes of nothing are its statements
+pub filled : (writing : Writing) (contexts : List Graph) (quads base : List Statement) → length contexts ≡ 0 → base ≡ [] → in_order quads ≡ applied base (written_as writing contexts quads)
+filled Adds [] quads base n e =
+    sym (sorted_set-is quad_total quad_exact (applied [] (additions [] quads)) quads (sorted-applied [] (additions [] quads))
+    (λ q. has-applied [] (additions [] quads) q ∙ ap (λ f. is_in_after f false) (additions-effect quads q) ∙ at (has quad_cmp quads q)))
+    ∙ ap (λ qs. applied qs (additions [] quads)) (sym e)
+  where
+    at : (b : Bool) → is_in_after (effect_where b mark.Adds) false ≡ b
+    at true = refl
+    at false = refl
+filled Replaces [] quads base n e =
+    sym (sorted_set-is quad_total quad_exact (applied [] (replacements [] quads)) quads (sorted-applied [] (replacements [] quads))
+    (λ q. has-applied [] (replacements [] quads) q ∙ ap (λ f. is_in_after f false) (replacements-effect quads q) ∙ at (has quad_cmp quads q)))
+    ∙ ap (λ qs. applied qs (replacements [] quads)) (sym e)
+  where
+    at : (b : Bool) → is_in_after (over (effect_where b mark.Adds) Removed) false ≡ b
+    at true = refl
+    at false = refl
+filled writing (g ∷ gs) quads base n e = absurd (omega arith)

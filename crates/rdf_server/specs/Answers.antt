@@ -1,5 +1,5 @@
 -- What a request is answered, and what the repository then holds.
-use Rattle.std.specs.Prelude.{◌≡◌, ℕ, Bool, true, false, List, [], ◌∷◌, ◌++◌, ◌⊎◌, codes, decimal, encode_utf8_all}
+use Rattle.std.specs.Prelude.{◌≡◌, ℕ, true, false, List, [], ◌∷◌, ◌++◌, ◌⊎◌, codes, decimal, encode_utf8_all}
 use Rattle.rdf_term.specs.Statement.{Statement}
 use Rattle.rdf_term.specs.declared.graph.Graph.{Graph}
 use Rattle.nquads_line.specs.declared.kind.Kind.{Kind}
@@ -18,7 +18,7 @@ use Rattle.nquads.specs.Written.{document_text}
 use Rattle.http_frame.specs.Messages.{SeenRequest, SeenResponse}
 use Rattle.http_frame.specs.Wire.{wire}
 use Rattle.http_frame.specs.declared.fault.FrameFault.{FrameFault}
-use Rattle.http_frame.specs.declared.fault.FrameFault.TheVariants.{BadHead, BadBody, Truncated, ReadFault, Memory as FrameMemory}
+use Rattle.http_frame.specs.declared.fault.FrameFault.TheVariants.{BadHead, BadHost, BadBody, Coding, BodyTooLong, Truncated, ReadFault, Memory as FrameMemory}
 use Rattle.rdf_server.specs.declared.action.Action.{Action}
 use Rattle.rdf_server.specs.declared.action.Action.TheVariants.{Write, Remove, List as ListQuads, Unknown}
 use Rattle.rdf_server.specs.declared.action.Writing.{Writing}
@@ -81,7 +81,7 @@ IsOutcome Unknown pairs body quads response quads' = (response ≡ refused_with 
 
 -- the bytes of the response to a request
 abbrev pub response_bytes : SeenRequest → SeenResponse → List ℕ
-response_bytes r response = wire response r.head.closes (is_text r.head.method (codes "HEAD"))
+response_bytes r response = wire response r.head.minor r.head.closes (is_text r.head.method (codes "HEAD"))
 
 -- the request is answered with these bytes, where the repository with this target holds quads, and then it holds quads'
 pub record IsAnswer (target : List ℕ) (quads : List Statement) (r : SeenRequest) (text : List ℕ) (quads' : List Statement) : Type 0 where
@@ -89,14 +89,27 @@ pub record IsAnswer (target : List ℕ) (quads : List Statement) (r : SeenReques
   pub outcome : IsOutcome (action_of target r.head) (parameters_of r.head) r.body quads response quads'
   pub written : text ≡ response_bytes r response
 
--- the cause why a frame is refused
+-- the status and the cause of a refused frame
+abbrev pub frame_status : FrameFault → ℕ
+frame_status BadHead = 400
+frame_status BadHost = 400
+frame_status BadBody = 400
+frame_status Coding = 501
+frame_status BodyTooLong = 413
+frame_status Truncated = 400
+frame_status ReadFault = 400
+frame_status FrameMemory = 400
+
 abbrev pub frame_text : FrameFault → List ℕ
 frame_text BadHead = codes "bad head"
+frame_text BadHost = codes "bad host"
 frame_text BadBody = codes "bad body"
+frame_text Coding = codes "unsupported transfer coding"
+frame_text BodyTooLong = codes "body too long"
 frame_text Truncated = codes "truncated body"
 frame_text ReadFault = []
 frame_text FrameMemory = []
 
 -- the bytes of the response to a refused frame, after which the connection ends
 unfoldable pub refusal : FrameFault → List ℕ
-refusal fault = wire (refused_with 400 (frame_text fault)) true false
+refusal fault = wire (refused_with (frame_status fault) (frame_text fault)) 1 true false

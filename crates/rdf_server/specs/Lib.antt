@@ -1,6 +1,5 @@
 pub mod Answers
 pub mod Laws
-pub mod Next
 pub mod Repositories
 pub mod Requests
 pub mod Sending

@@ -6,8 +6,9 @@ use Rattle.http_frame.specs.Frames.{IsRequest}
 use Rattle.http_frame.specs.Messages.{SeenRequest}
 use Rattle.http_frame.specs.Streams.{IsStream}
 use Rattle.http_frame.specs.declared.fault.FrameFault.{FrameFault}
+use Rattle.http_frame.specs.declared.fault.FrameFault.TheVariants.{ReadFault as ReadFrame, Memory as FrameMemory}
 use Rattle.rdf_server.specs.Answers.{IsAnswer, refusal}
-use Rattle.rdf_server.specs.Sessions.{IsStop}
+use Rattle.rdf_server.specs.Sessions.{IsReply, IsStop}
 use Rattle.rdf_server.specs.declared.session.End.{End}
 use Rattle.rdf_server.specs.declared.session.End.TheVariants.{Done, Refused, ReadFault, WriteFault, Limit, Memory}
 use Rattle.rdf_server.specs.declared.session.Turn.{Turn}
@@ -16,10 +17,10 @@ use Rattle.rdf_server.specs.declared.session.Turn.TheVariants.{Answered, Closed,
 -- one turn over the stream b: the quads after it, what is held and left, and the bytes written
 abbrev pub IsTurn : List ℕ → List Statement → List ℕ → List Statement → List ℕ → Option (List ℕ) → List ℕ → Turn → Type 0
 IsTurn target quads b quads' held left text Answered = (r : SeenRequest) × (rest : List ℕ) × IsRequest b r rest × (r.head.closes ≡ false)
-    × IsAnswer target quads r text quads' × IsStream held left rest
+    × IsReply target quads r text quads' × IsStream held left rest
 IsTurn target quads b quads' held left text Closed = (r : SeenRequest) × (rest : List ℕ) × IsRequest b r rest × (r.head.closes ≡ true)
-    × IsAnswer target quads r text quads'
-IsTurn target quads b quads' held left text (Stopped end) = IsStop target quads b end text
+    × IsReply target quads r text quads'
+IsTurn target quads b quads' held left text (Stopped end) = IsStop target quads b left end text
 
 -- the answer to a request that was cut, as far as it was written
 abbrev pub IsAnswering : List ℕ → List Statement → SeenRequest → List Statement → List ℕ → Turn → Type 0
@@ -41,6 +42,20 @@ IsRefusing fault text Memory = text ≡ []
 IsRefusing fault text Done = ⊥
 IsRefusing fault text ReadFault = ⊥
 IsRefusing fault text Limit = ⊥
+
+-- the end at a fault of the frames, and what is written for it
+abbrev pub IsStopping : FrameFault → List ℕ → End → Type 0
+IsStopping ReadFrame text end = (end ≡ ReadFault) × (text ≡ [])
+IsStopping FrameMemory text end = (end ≡ Memory) × (text ≡ [])
+IsStopping fault text end = IsRefusing fault text end
+
+-- a sink's count rose where a session that ends answers its fault, and else it stands; a fault of the source is told on
+pub record StopCauses (sinks sinks' : ℕ) (fault : FrameFault) (end : End) : Type 0 where
+  pub later : sinks ≤ sinks'
+  pub failed : end ≡ WriteFault → Rose sinks sinks'
+  pub kept : end ≢ WriteFault → sinks' ≡ sinks
+  pub read : end ≡ ReadFault → fault ≡ ReadFrame
+  pub unread : fault ≡ ReadFrame → end ≡ ReadFault
 
 -- a sink's count rose where a turn answers its fault, and else it stands; and it is no fault of the source
 pub record SinkCauses {T : Type 0} (sinks sinks' : ℕ) (turn write read : T) : Type 0 where

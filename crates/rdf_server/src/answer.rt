@@ -5,7 +5,7 @@ ghost use Rattle.change_set.specs.Content.{applied};
 ghost use Rattle.api_parts.specs.Selections.{name_of};
 ghost use Rattle.api_parts.specs.Writes.{removals};
 ghost use Rattle.rdf_server.specs.Requests.{action_of, parameters_of};
-ghost use Rattle.rdf_server.specs.Answers.{with_type, refused_with, listing, frame_text, no_content, written_as, IsDocumentWrite, IsWrite, IsOutcome, IsAnswer, refusal};
+ghost use Rattle.rdf_server.specs.Answers.{with_type, refused_with, listing, frame_status, frame_text, no_content, written_as, IsDocumentWrite, IsWrite, IsOutcome, IsAnswer, refusal};
 ghost use Rattle.rdf_server.specs.declared.action.Action.TheVariants.{Remove, List as ListQuads};
 
 use crate::action::{Action, Writing, action_of, is_bodiless, parameters_of};
@@ -112,6 +112,28 @@ fn changes_of(
     }
 }
 
+/// Puts the statements of a document where the contexts say. Where nothing is held yet and each stays in
+/// its own graph, a base is made of them at once: a layer would be folded right away, and would hold
+/// them once more until then.
+#[tactic(auto, using(crate::proofs::RepositoryLemmas::filled))]
+fn store(
+    alloc: Global,
+    repository: &mut Repository,
+    writing: Writing,
+    contexts: &Graphs,
+    quads: Quads,
+) -> Result<(), Memory>
+    requires { All IsGraph contexts.now }
+    ensures quads { OnOk result (repository.new.quads ≡ applied repository.old.quads (written_as writing contexts.now quads)) }
+    ensures target { repository.new.target ≡ repository.old.target }
+{
+    if contexts.as_slice().is_empty() && repository.is_fresh() {
+        return repository.fill(&quads);
+    }
+    let changes = changes_of(alloc, writing, contexts, quads)?;
+    repository.apply(&changes)
+}
+
 /// Writes the statements of a document, or none of them where a line is refused.
 fn write_document(
     alloc: Global,
@@ -127,8 +149,7 @@ fn write_document(
 {
     match read_document(alloc, kind, body) {
         Ok(quads) => {
-            let changes = changes_of(alloc, writing, contexts, quads)?;
-            repository.apply(&changes)?;
+            store(alloc, repository, writing, contexts, quads)?;
             Ok(no_content(alloc))
         }
         Err(DataFault::BadLine(line)) => {
@@ -251,13 +272,23 @@ pub fn answer_bytes(
     let response = answer(alloc, repository, request)?;
     let mut out = Bytes::new(alloc);
     write_response(
-        alloc,
         &response,
+        request.head.minor,
         request.head.closes,
         is_bodiless(request),
         &mut out,
     )?;
     Ok(out)
+}
+
+fn frame_status(fault: FrameFault) -> u16
+    ensures { result ≡ frame_status fault }
+{
+    match fault {
+        FrameFault::Coding => 501,
+        FrameFault::BodyTooLong => 413,
+        _ => 400,
+    }
 }
 
 /// Says why a frame is refused.
@@ -266,7 +297,10 @@ fn frame_text(fault: FrameFault) -> &'static [u8]
 {
     match fault {
         FrameFault::BadHead => b"bad head",
+        FrameFault::BadHost => b"bad host",
         FrameFault::BadBody => b"bad body",
+        FrameFault::Coding => b"unsupported transfer coding",
+        FrameFault::BodyTooLong => b"body too long",
         FrameFault::Truncated => b"truncated body",
         FrameFault::ReadFault => b"",
         FrameFault::Memory => b"",
@@ -278,8 +312,8 @@ fn frame_text(fault: FrameFault) -> &'static [u8]
 pub fn refusal(alloc: Global, fault: FrameFault) -> Result<Bytes, Memory>
     ensures { IfOk result (λ text. text.items ≡ refusal fault) }
 {
-    let response = refused_with(alloc, 400, frame_text(fault))?;
+    let response = refused_with(alloc, frame_status(fault), frame_text(fault))?;
     let mut out = Bytes::new(alloc);
-    write_response(alloc, &response, true, false, &mut out)?;
+    write_response(&response, 1, true, false, &mut out)?;
     Ok(out)
 }

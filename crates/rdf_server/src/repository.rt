@@ -1,8 +1,9 @@
-ghost use Rattle.std.specs.Prelude.{◌≡◌, ◌≤◌, [], length, IfOk, OnOk, OnErr};
+ghost use Rattle.std.specs.Prelude.{◌≡◌, ◌≤◌, [], true, length, IfOk, OnOk, OnErr};
 ghost use Rattle.std.specs.List.{filter, flat_map, list_any};
 ghost use Rattle.std.specs.List.Sorted.{IsStrictlySortedBy};
 ghost use Rattle.rdf_term.specs.Matching.{matches};
 ghost use Rattle.rdf_term.specs.Order.{quad_cmp};
+ghost use Rattle.rdf_term.specs.Sets.{in_order};
 ghost use Rattle.change_set.specs.Content.{applied};
 ghost use Rattle.api_parts.specs.Selections.{selected};
 ghost use Rattle.rdf_server.specs.Requests.{statements_target};
@@ -133,6 +134,31 @@ impl Repository {
     {
         let patterns = patterns_of(alloc, selection)?;
         scan_set(alloc, &self.branch, patterns.as_slice())
+    }
+
+    /// Whether it holds nothing and no changes are kept above its base.
+    pub fn is_fresh(&self) -> bool
+        ensures { result ≡ true → self.now.quads ≡ [] }
+    {
+        self.branch.layers() == 0 && self.branch.is_empty()
+    }
+
+    /// Makes a base of these quads, which are all that it then holds. Without memory the repository stays
+    /// as it was.
+    #[tactic(auto, using(crate::proofs::RepositoryLemmas::ascending_set))]
+    pub fn fill(&mut self, quads: &Quads) -> Result<(), Memory>
+        ensures target { self.new.target ≡ self.old.target }
+        ensures quads { OnOk result (self.new.quads ≡ in_order quads.now) }
+        ensures memory { OnErr result (self.new ≡ self.old) }
+    {
+        // The older base is small where it holds nothing; it tells the orders.
+        let base = self.branch.fold()?.with_quads(self.alloc, quads)?;
+        let count = base.len();
+        let branch = Branch::new(self.alloc, base)?;
+        self.branch = branch;
+        self.base = count;
+        self.changes = 0;
+        Ok(())
     }
 
     /// Makes changes. Without memory the repository stays as it was.

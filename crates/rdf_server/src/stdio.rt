@@ -44,7 +44,7 @@ fn run_session<S: Source, K: Sink>(
     sink: &mut K,
 ) -> End
     ensures session { (b t : List ℕ) → S.left source.old ≡ Some b → K.taken sink.old ≡ Some t
-        → (written : List ℕ) × (K.taken sink.new ≡ Some (t ++ written)) × IsServed id.now b result written }
+        → (written : List ℕ) × (K.taken sink.new ≡ Some (t ++ written)) × IsServed id.now b (S.left source.new) result written }
     ensures causes { HasCauses (S.faults source.old) (S.faults source.new) (K.faults sink.old) (K.faults sink.new)
         (result ≡ ReadFault) (result ≡ WriteFault) }
     ensures sound { S.sound source.old → (result ≢ ReadFault) × S.sound source.new }
@@ -83,11 +83,12 @@ pub fn run_stdio<S: Source, K: Sink>(
     ensures unwritten { result ≡ 5 → K.taken sink.new ≡ K.taken sink.old }
 
     // Else what is written is the text of the session over the bytes that the source tells, however it
-    // cuts them, and the status says how the session ended.
+    // cuts them, and the status says how the session ended. Where the source failed, the bytes that it
+    // has left say whether `100 Continue` went out before.
     ensures session { (id b t : List ℕ) → IsStdio (map encode_utf8_all words.now) id
         → S.left source.old ≡ Some b → K.taken sink.old ≡ Some t
         → (end : End) × (result ≡ status_of end)
-        × (written : List ℕ) × (K.taken sink.new ≡ Some (t ++ written)) × IsServed id b end written }
+        × (written : List ℕ) × (K.taken sink.new ≡ Some (t ++ written)) × IsServed id b (S.left source.new) end written }
 
     // A fault is answered only where its object failed, no fault is passed over, and a sound source has none.
     ensures causes { HasCauses (S.faults source.old) (S.faults source.new) (K.faults sink.old) (K.faults sink.new)

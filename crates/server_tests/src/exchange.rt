@@ -85,7 +85,7 @@ pub fn refused(alloc: Global, status: &str, close: &str, text: &str) -> Result<S
 pub fn write(alloc: Global, method: &str, query: &str, document: &str) -> Result<String, Memory> {
     let length = document.len();
     Ok(format!(in alloc;
-        "{method} /rdf4j-server/repositories/r/statements{query} HTTP/1.1\r\nContent-Type: application/n-quads\r\nContent-Length: {length}\r\n\r\n{document}"
+        "{method} /rdf4j-server/repositories/r/statements{query} HTTP/1.1\r\nHost: h\r\nContent-Type: application/n-quads\r\nContent-Length: {length}\r\n\r\n{document}"
     )?)
 }
 

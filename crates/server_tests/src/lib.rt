@@ -15,4 +15,6 @@ mod sessions;
 #[cfg(test)]
 mod statements;
 #[cfg(test)]
+mod streams;
+#[cfg(test)]
 mod worked;

@@ -1,6 +1,6 @@
 //! Sessions: their ends, their limits, and the words of the program.
 use crate::exchange::{
-    CALM, EMPTY_LIST, LINE, LIST, NO_CONTENT, Outside, listing, post, refused, run, write,
+    ADD, CALM, EMPTY_LIST, LINE, LIST, NO_CONTENT, Outside, listing, post, refused, run, write,
 };
 use rdf_server::{sessions_are_determined, sessions_join};
 use rdf_term::Memory;
@@ -63,12 +63,12 @@ fn other_requests_are_no_resource(rt: HostRuntime) -> Result<(), Memory> {
         "POST /rdf4j-server/repositories/r/statements HTTP/1.1\r\nContent-Type: text/turtle",
         "POST /rdf4j-server/repositories/r/statements HTTP/1.1\r\nContent-Type: text/plain\r\nContent-Type: text/plain",
     ] {
-        let input = format!(in alloc; "{head}\r\n\r\n")?;
+        let input = format!(in alloc; "{head}\r\nHost: h\r\n\r\n")?;
         let ran = run(alloc, &["stdio", "r"], input.as_str(), CALM)?;
         assert_eq!(rt; ran.status, 0);
         assert!(rt; ran.taken.as_str() == gone.as_str(), "{head}");
     }
-    let input = "HEAD /x HTTP/1.0\r\n\r\nGET /x HTTP/1.1\r\n\r\n";
+    let input = "HEAD /x HTTP/1.0\r\n\r\nGET /x HTTP/1.1\r\nHost: h\r\n\r\n";
     let ran = run(alloc, &["stdio", "r"], input, CALM)?;
     assert_eq!(rt; ran.status, 0);
     assert!(rt;
@@ -89,7 +89,7 @@ fn documents_have_four_media_types(rt: HostRuntime) -> Result<(), Memory> {
     ] {
         let length = LINE.len();
         let input = format!(in alloc;
-            "POST /rdf4j-server/repositories/r/statements HTTP/1.1\r\nContent-Type: {media_type}\r\nContent-Length: {length}\r\n\r\n{LINE}"
+            "POST /rdf4j-server/repositories/r/statements HTTP/1.1\r\nHost: h\r\nContent-Type: {media_type}\r\nContent-Length: {length}\r\n\r\n{LINE}"
         )?;
         let ran = run(alloc, &["stdio", "r"], input.as_str(), CALM)?;
         assert!(rt; ran.taken.as_str() == NO_CONTENT, "{media_type}");
@@ -100,20 +100,123 @@ fn documents_have_four_media_types(rt: HostRuntime) -> Result<(), Memory> {
 #[test]
 fn refused_frames_end_the_session(rt: HostRuntime) -> Result<(), Memory> {
     let alloc = rt.alloc();
-    for (input, text) in [
-        ("GET / HTTP/1.1\r\nHost: h\r\n", "bad head"),
-        ("\u{1}", "bad head"),
-        ("GET / HTTP/1.1\r\nTransfer-Encoding: x\r\n\r\n", "bad body"),
-        ("GET / HTTP/1.1\r\nContent-Length: -1\r\n\r\n", "bad body"),
+    for (input, status, text) in [
         (
-            "GET / HTTP/1.1\r\nContent-Length: 3\r\n\r\nab",
+            "GET / HTTP/1.1\r\nHost: h\r\n",
+            "400 Bad Request",
+            "bad head",
+        ),
+        ("\u{1}", "400 Bad Request", "bad head"),
+        ("GET / HTTP/1.1\r\n\r\n", "400 Bad Request", "bad host"),
+        (
+            "GET / HTTP/1.0\r\nContent-Length: -1\r\n\r\n",
+            "400 Bad Request",
+            "bad body",
+        ),
+        (
+            "GET / HTTP/1.1\r\nHost: h\r\nTransfer-Encoding: chunked\r\n\r\nx",
+            "400 Bad Request",
+            "bad body",
+        ),
+        (
+            "GET / HTTP/1.1\r\nHost: h\r\nTransfer-Encoding: x\r\n\r\n",
+            "501 Not Implemented",
+            "unsupported transfer coding",
+        ),
+        (
+            "GET / HTTP/1.0\r\nContent-Length: 16777217\r\n\r\n",
+            "413 Content Too Large",
+            "body too long",
+        ),
+        (
+            "GET / HTTP/1.0\r\nContent-Length: 3\r\n\r\nab",
+            "400 Bad Request",
             "truncated body",
         ),
     ] {
-        let want = refused(alloc, "400 Bad Request", "Connection: close\r\n", text)?;
+        let want = refused(alloc, status, "Connection: close\r\n", text)?;
         let ran = run(alloc, &["stdio", "r"], input, CALM)?;
         assert_eq!(rt; ran.status, 1);
         assert!(rt; ran.taken.as_str() == want.as_str(), "{text}");
+    }
+    Ok(())
+}
+
+#[test]
+fn chunked_uploads_are_kept(rt: HostRuntime) -> Result<(), Memory> {
+    let alloc = rt.alloc();
+    let input = format!(in alloc;
+        "{ADD}Transfer-Encoding: chunked\r\n\r\n5;x=y\r\n<http\r\n24\r\n://e/s> <http://e/p> <http://e/o> .\n\r\n0\r\nA: b\r\n\r\n{LIST}"
+    )?;
+    let list = listing(alloc, LINE)?;
+    let want = format!(in alloc; "{NO_CONTENT}{list}")?;
+    for cut in [0, 1, 3] {
+        let ran = run(
+            alloc,
+            &["stdio", "r"],
+            input.as_str(),
+            Outside { cut, ..CALM },
+        )?;
+        assert_eq!(rt; ran.status, 0);
+        assert!(rt; ran.taken.as_str() == want.as_str(), "cut {cut}");
+    }
+    Ok(())
+}
+
+#[test]
+fn bodies_are_asked_for(rt: HostRuntime) -> Result<(), Memory> {
+    let alloc = rt.alloc();
+    let go_on = "HTTP/1.1 100 Continue\r\n\r\n";
+    let short = refused(
+        alloc,
+        "400 Bad Request",
+        "Connection: close\r\n",
+        "truncated body",
+    )?;
+    let host = refused(
+        alloc,
+        "400 Bad Request",
+        "Connection: close\r\n",
+        "bad host",
+    )?;
+    let kept = format!(in alloc; "{go_on}{NO_CONTENT}")?;
+    let cut = format!(in alloc; "{go_on}{short}")?;
+    for (fields, body, want) in [
+        ("Content-Length: 41", LINE, kept.as_str()),
+        (
+            "Transfer-Encoding: chunked",
+            "29\r\n<http://e/s> <http://e/p> <http://e/o> .\n\r\n0\r\n\r\n",
+            kept.as_str(),
+        ),
+        ("Content-Length: 42", LINE, cut.as_str()),
+        ("Content-Length: 0", "", NO_CONTENT),
+        ("Host: g\r\nContent-Length: 41", LINE, host.as_str()),
+    ] {
+        let input = format!(in alloc; "{ADD}Expect: 100-continue\r\n{fields}\r\n\r\n{body}")?;
+        let ran = run(alloc, &["stdio", "r"], input.as_str(), CALM)?;
+        assert!(rt; ran.taken.as_str() == want, "{fields}");
+    }
+    Ok(())
+}
+
+#[test]
+fn a_body_is_asked_for_once_its_head_was_read(rt: HostRuntime) -> Result<(), Memory> {
+    let alloc = rt.alloc();
+    let input = format!(in alloc; "{ADD}Expect: 100-continue\r\nContent-Length: 41\r\n\r\n{LINE}")?;
+    let head = input.len().saturating_sub(LINE.len());
+    for (cut, want) in [
+        (head.saturating_sub(1), ""),
+        (head, "HTTP/1.1 100 Continue\r\n\r\n"),
+        (head.saturating_add(40), "HTTP/1.1 100 Continue\r\n\r\n"),
+    ] {
+        let outside = Outside {
+            cut,
+            read_fails: Some(1),
+            ..CALM
+        };
+        let ran = run(alloc, &["stdio", "r"], input.as_str(), outside)?;
+        assert_eq!(rt; ran.status, 2);
+        assert!(rt; ran.taken.as_str() == want, "cut {cut}");
     }
     Ok(())
 }
@@ -218,7 +321,7 @@ fn a_session_has_100_000_requests(rt: HostRuntime) -> Result<(), Memory> {
     let alloc = rt.alloc();
     let mut input = String::new(alloc);
     for _ in 0..100_001u32 {
-        input.push_str("GET / HTTP/1.1\r\n\r\n")?;
+        input.push_str("GET / HTTP/1.1\r\nHost: h\r\n\r\n")?;
     }
     let answer = refused(alloc, "404 Not Found", "", "no such resource")?;
     let ran = run(alloc, &["stdio", "r"], input.as_str(), CALM)?;

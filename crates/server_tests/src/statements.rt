@@ -67,7 +67,7 @@ fn delete_removes_what_is_selected(rt: HostRuntime) -> Result<(), Memory> {
         ("?subj=_:none", THREE),
     ] {
         let request = format!(in alloc;
-            "DELETE /rdf4j-server/repositories/r/statements{query} HTTP/1.1\r\n\r\n"
+            "DELETE /rdf4j-server/repositories/r/statements{query} HTTP/1.1\r\nHost: h\r\n\r\n"
         )?;
         assert!(rt;
             is_answered(alloc, request.as_str(), NO_CONTENT, left)?,
@@ -90,7 +90,7 @@ fn get_lists_what_is_selected(rt: HostRuntime) -> Result<(), Memory> {
         ("?obj=%223%22@en", ""),
     ] {
         let request = format!(in alloc;
-            "GET /rdf4j-server/repositories/r/statements{query} HTTP/1.1\r\n\r\n"
+            "GET /rdf4j-server/repositories/r/statements{query} HTTP/1.1\r\nHost: h\r\n\r\n"
         )?;
         let answer = listing(alloc, lines)?;
         assert!(rt;

@@ -1,4 +1,4 @@
-use Rattle.std.proofs.Common.{rules, IsTrue, false}
+use Rattle.std.proofs.Common.{rules}
 use Rattle.nquads_line.specs.Grammar.{IsTerm}
 use Rattle.api_parts.specs.Selections.{IsOfKind}
 use Rattle.api_parts.proofs.SelectionLemmas.{other_kind}

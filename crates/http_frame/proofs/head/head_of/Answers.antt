@@ -1,4 +1,4 @@
-use Rattle.std.proofs.Common.{List, ℕ, IsUtf8, ◌∙◌, sym, subst}
+use Rattle.std.proofs.Common.{IsUtf8, ◌∙◌, sym, subst}
 use Rattle.http_frame.proofs.HeadLemmas.{token_text}
 use Rattle.http_frame.proofs.head.head_of.Goals as goal
 

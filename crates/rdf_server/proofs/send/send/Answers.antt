@@ -1,4 +1,4 @@
-use Rattle.std.proofs.Common.{◌≡◌, ℕ, ◌+◌, ◌≤◌, List, length, arith, length-drop, ◌∙◌}
+use Rattle.std.proofs.Common.{◌+◌, arith, length-drop, ◌∙◌}
 use Rattle.rdf_server.proofs.SendLemmas.{sent_more}
 use Rattle.rdf_server.proofs.send.send.Goals as goal
 

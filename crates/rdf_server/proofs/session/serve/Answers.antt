@@ -1,4 +1,4 @@
-use Rattle.std.proofs.Common.{◌≡◌, List, ℕ, sym, ◌∙◌, refl, arith, subst}
+use Rattle.std.proofs.Common.{List, ℕ, ◌∙◌, refl, arith, subst}
 use Rattle.rdf_server.specs.declared.session.Turn.TheVariants.{Answered, Closed, Stopped}
 use Rattle.rdf_server.proofs.SessionLemmas.{Turned, started, one_more, closed, stopped, limited}
 use Rattle.rdf_server.proofs.session.serve.Goals as goal
