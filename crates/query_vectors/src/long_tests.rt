@@ -1,7 +1,7 @@
 //! Queries at the limits of 256 patterns and of 65,535 bytes a part of a term, and one above them;
 //! they are built here, since they are too long for a table.
 use crate::QueryReading;
-use crate::query_tests::{is_fault, printed};
+use crate::tests::{is_fault, printed};
 use QueryReading::{BadAt, Unsupported};
 use query_grammar::QueryFault;
 use rdf_term::{Memory, Text};

@@ -1,5 +1,5 @@
 //! Worked answers: the text of their tables and triples, and where there are too many rows.
-use crate::query_answer_tests::{DATA, index_of, quads_of};
+use crate::answer_tests::{DATA, index_of, quads_of};
 use bgp_eval::{EvalFault, Found, answer_query};
 use nquads::{Kind, write_quads};
 use quad_index::Index;
