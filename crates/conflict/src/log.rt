@@ -1,6 +1,5 @@
 ghost use Rattle.std.specs.Prelude.{◌≡◌, ◌+◌, ◌<◌, ◌≤◌, ◌∷◌, ◌++◌, [], filter, length, max, nat_le, OnOk, OnErr};
 ghost use Rattle.std.specs.Option.{option_map};
-ghost use Rattle.change_set.specs.Deltas.{removed_patterns};
 ghost use Rattle.conflict.specs.Logs.{AllBelow};
 ghost use Rattle.conflict.specs.Clashes.{clash_above};
 
@@ -55,12 +54,11 @@ impl CommitLog {
         self.kept.len()
     }
 
-    /// Keeps the quads that the entry at a place changed. The place is above all kept ones, and the
-    /// delta names each quad: it removes no pattern. It is shared and not copied. Without memory the
-    /// log stays as it was.
+    /// Keeps the quads that the entry at a place changed, which are those that the delta names. The
+    /// place is above all kept ones. The delta is shared and not copied. Without memory the log stays
+    /// as it was.
     pub fn note(&mut self, place: u64, delta: Arc<ChangeSet>) -> Result<(), Memory>
         requires above { AllBelow place self.old.kept }
-        requires named { removed_patterns delta.value ≡ [] }
         ensures kept { OnOk result (self.new.kept ≡ self.old.kept ++ record { place = place; changes = delta.value } ∷ []) }
         ensures trimmed { self.new.trimmed ≡ self.old.trimmed }
         ensures memory { OnErr result (self.new ≡ self.old) }

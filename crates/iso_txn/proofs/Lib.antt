@@ -6,3 +6,8 @@ pub mod SizeLemmas
 pub mod StateLemmas
 pub mod Steps
 pub mod Views
+pub mod WatchCalls
+pub mod WatchEmpty
+pub mod WatchGrowth
+pub mod WatchLemmas
+pub mod WatchParts

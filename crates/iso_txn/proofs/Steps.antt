@@ -25,6 +25,7 @@ use Rattle.journal.proofs.Open.{AllBelow, begun_below, begun_now, by_push, is_op
 use Rattle.journal.proofs.Among.{is_open-among}
 use Rattle.journal.proofs.Turns.{commits_in_turn, prefixes_in_turn}
 use Rattle.iso_txn.specs.Kept.{Kept, Opened, Pending, Standing, base_at, is_among, lives, nothing_kept, opened, opened_in, pending, pending_of, pending_op}
+use Rattle.iso_txn.specs.Watch.{Watch}
 
 -- Contents
 
@@ -252,6 +253,7 @@ kept_next l J k j = record {
   writes = filter (λ (w : Pending). not (ends w.txn j)) k.writes ++ pending_of l (judged l J ++ j ∷ []) j;
   prefixes = if j.accepted then prefixes_behind k.prefixes j.entry.op else k.prefixes;
   commits = k.commits + (if j.accepted && is_commit j.entry.op then 1 else 0);
+  watch = k.watch;
 }
 
 pub stands_next : (l : Limits) (J : List Entry) (k : Kept) → Standing l J k → (e : Entry) (b : Bool) → is_accepted l (judged l J) e ≡ b
@@ -269,6 +271,10 @@ stands_next l J k h e b is =
       prefixes_are = ap (λ ps. cond b (prefixes_behind ps e.op) ps) h.prefixes_are ∙ sym (ap (prefixes_of l) pushed ∙ prefixes_in_turn l p j);
       commits_are = ap (λ n. n + cond (b && is_commit e.op) 1 0) h.commits_are ∙ sym (commits_in_turn l J e ∙ ap (λ a. commits_in l J + cond (a && is_commit e.op) 1 0) is);
     }
+
+-- what is kept for SERIALIZABLE transactions is no matter of that
+pub stands_watching : (l : Limits) (J : List Entry) (k : Kept) (w : Watch) → Standing l J k → Standing l J (record k { watch = w })
+stands_watching l J k w h = record { content_is = h.content_is; opened_is = h.opened_is; writes_are = h.writes_are; prefixes_are = h.prefixes_are; commits_are = h.commits_are }
 
 pub content-still : (l : Limits) (J : List Entry) (k : Kept) → Standing l J k → applied k.content [] ≡ k.content
 content-still l J k h = ap (λ c. applied c []) h.content_is ∙ (committed-nothing l (judged l J) ∙ sym h.content_is)

@@ -1,7 +1,8 @@
 -- What a repository keeps of its journal, and what each call answers and leaves in these words.
 use Rattle.std.specs.Prelude.{◌≡◌, ℕ, ◌+◌, Bool, true, false, not, ◌&&◌, List, [], ◌∷◌, ◌++◌, length, map, filter, take, Option, Some, None, nat_le, if◌then◌else◌, find}
 use Rattle.std.specs.List.{flat_map, list_any}
-use Rattle.std.specs.Option.{option_map, unwrap_or}
+use Rattle.std.specs.Option.{is_some, option_map, unwrap_or}
+use Rattle.rdf_term.specs.declared.pattern.Pattern.{Pattern}
 use Rattle.rdf_term.specs.Statement.{Statement}
 use Rattle.change_set.specs.declared.change.Change.{Change}
 use Rattle.change_set.specs.Content.{applied}
@@ -20,6 +21,7 @@ use Rattle.journal.specs.Past.{Judged, is_open, open_txns}
 use Rattle.journal.specs.Committed.{committed, prefixes_of, prefixes_with}
 use Rattle.journal.specs.Replies.{is_refusal, names_reply, within}
 use Rattle.journal.specs.Journal.{commits_in, judged}
+use Rattle.iso_txn.specs.Watch.{Watch, nothing_watched, quads_changed, watch_begun, watch_ended, watch_noted, watch_read, watched_clash}
 
 -- Pending writes
 
@@ -98,25 +100,22 @@ without t os = filter (λ (o : Opened). not (is_txn o.txn t)) os
 abbrev pub find_open : Txn → List Opened → Option Opened
 find_open t os = find (λ (o : Opened). is_txn t o.txn) os
 
--- no SERIALIZABLE transaction is among these
-abbrev pub AreBelowSerializable : List Opened → Type 0
-AreBelowSerializable os = (t : Txn) → is_among t os ≡ true → is_level t.level Serializable ≡ false
-
 -- What is kept
 
--- the committed content, the open transactions, their pending writes, the prefixes, and the number of accepted Commits
+-- the committed content, the open transactions, their pending writes, the prefixes, the number of accepted Commits, and what is kept for SERIALIZABLE transactions
 pub record Kept : Type 0 where
   pub content : List Statement
   pub open_txns : List Opened
   pub writes : List Pending
   pub prefixes : List (List ℕ × List ℕ)
   pub commits : ℕ
+  pub watch : Watch
 
 -- of a journal without entries
 abbrev pub nothing_kept : Kept
-nothing_kept = record { content = []; open_txns = []; writes = []; prefixes = []; commits = 0 }
+nothing_kept = record { content = []; open_txns = []; writes = []; prefixes = []; commits = 0; watch = nothing_watched }
 
--- what is kept stands for the journal
+-- what is kept for all transactions stands for the journal
 pub record Standing (limits : Limits) (journal : List Entry) (kept : Kept) : Type 0 where
   pub content_is : kept.content ≡ committed limits (judged limits journal)
   pub opened_is : kept.open_txns ≡ opened_in limits (judged limits journal)
@@ -134,14 +133,22 @@ abbrev pub begin_answer : Limits → Kept → Txn → Reply
 begin_answer limits kept t = if is_crowded limits kept then reply.TooManyOpen else reply.Begun t
 
 abbrev pub begin_kept : Limits → Kept → Txn → Kept
-begin_kept limits kept t = if is_crowded limits kept then kept else record kept { open_txns = kept.open_txns ++ base_at t kept.content ∷ [] }
+begin_kept limits kept t = if is_crowded limits kept then kept else record kept { open_txns = kept.open_txns ++ base_at t kept.content ∷ []; watch = watch_begun t kept.watch }
 
 abbrev pub done_if : Bool → Reply
 done_if fits = if fits then reply.Done else reply.TooLarge
 
--- the content with these changes where the limits allow it
-abbrev pub content_within : Limits → List Statement → List Change → List Statement
-content_within limits content changes = if within limits (applied content changes) then applied content changes else content
+-- what these changes do to the content where the limits allow it: the quads that they change
+abbrev pub changed_within : Limits → List Statement → List Change → Option (List Statement)
+changed_within limits content changes = if within limits (applied content changes) then Some (quads_changed content (applied content changes)) else None
+
+-- the entry at a place makes this content of the one that was there
+abbrev pub changed_kept : ℕ → Kept → List Statement → Kept
+changed_kept place kept content = record kept { content = content; watch = watch_noted place (quads_changed kept.content content) kept.watch }
+
+-- the entry at a place applies these changes where the limits allow it
+abbrev pub applied_kept : Limits → ℕ → Kept → List Change → Kept
+applied_kept limits place kept changes = if within limits (applied kept.content changes) then changed_kept place kept (applied kept.content changes) else kept
 
 abbrev pub write_answer : Limits → Kept → Option Txn → List Change → Reply
 write_answer limits kept txn changes =
@@ -154,33 +161,51 @@ abbrev pub waiting : Option Txn → List Change → List Pending
 waiting None changes = []
 waiting (Some t) changes = record { txn = t; changes = changes } ∷ []
 
-abbrev pub write_kept : Limits → Kept → Option Txn → List Change → Kept
-write_kept limits kept txn changes =
+abbrev pub write_kept : Limits → ℕ → Kept → Option Txn → List Change → Kept
+write_kept limits place kept txn changes =
     if lives txn kept.open_txns
-    then if commits_at_once txn then record kept { content = content_within limits kept.content changes } else record kept { writes = kept.writes ++ waiting txn changes }
+    then if commits_at_once txn then applied_kept limits place kept changes else record kept { writes = kept.writes ++ waiting txn changes }
     else kept
 
 -- what a Commit of the transaction leaves of the content
 abbrev pub content_with_own : Kept → Txn → List Statement
 content_with_own kept t = applied kept.content (changes_where (is_txn t) kept.writes)
 
+-- the conflict where there is a clash, else another reply
+abbrev pub conflict_or : Option (Pattern × Statement) → Reply → Reply
+conflict_or (Some clash) other = reply.Conflict clash.0 clash.1
+conflict_or None other = other
+
 abbrev pub commit_answer : Limits → Kept → Txn → Reply
-commit_answer limits kept t = if is_among t kept.open_txns then done_if (within limits (content_with_own kept t)) else reply.NoTransaction
+commit_answer limits kept t =
+    if is_among t kept.open_txns
+    then conflict_or (watched_clash kept.watch t) (done_if (within limits (content_with_own kept t)))
+    else reply.NoTransaction
 
-abbrev pub ended : Kept → Txn → Kept
-ended kept t = record kept { open_txns = without t kept.open_txns; writes = pending_without t kept.writes }
+-- the entry at a place ends a transaction
+abbrev pub ended : ℕ → Kept → Txn → Kept
+ended place kept t =
+    record kept { open_txns = without t kept.open_txns; writes = pending_without t kept.writes; watch = watch_ended place t kept.watch }
 
-abbrev pub committed_kept : Kept → Txn → Kept
-committed_kept kept t = record (ended kept t) { content = content_with_own kept t; commits = kept.commits + 1 }
+abbrev pub committed_kept : ℕ → Kept → Txn → Kept
+committed_kept place kept t = record (ended place (changed_kept place kept (content_with_own kept t)) t) { commits = kept.commits + 1 }
 
-abbrev pub commit_kept : Limits → Kept → Txn → Kept
-commit_kept limits kept t = if is_among t kept.open_txns && within limits (content_with_own kept t) then committed_kept kept t else kept
+-- whether a Commit of the transaction is done
+abbrev pub is_done : Limits → Kept → Txn → Bool
+is_done limits kept t = is_among t kept.open_txns && (not (is_some (watched_clash kept.watch t)) && within limits (content_with_own kept t))
+
+abbrev pub commit_kept : Limits → ℕ → Kept → Txn → Kept
+commit_kept limits place kept t = if is_done limits kept t then committed_kept place kept t else kept
 
 abbrev pub end_answer : Kept → Txn → Reply
 end_answer kept t = if is_among t kept.open_txns then reply.Done else reply.NoTransaction
 
-abbrev pub rollback_kept : Kept → Txn → Kept
-rollback_kept kept t = if is_among t kept.open_txns then ended kept t else kept
+abbrev pub rollback_kept : ℕ → Kept → Txn → Kept
+rollback_kept place kept t = if is_among t kept.open_txns then ended place kept t else kept
+
+-- a read observes these patterns
+abbrev pub read_kept : Kept → Option Txn → List Pattern → Kept
+read_kept kept txn patterns = record kept { watch = watch_read txn patterns kept.watch }
 
 -- a refused Put leaves the prefixes
 abbrev pub names_kept : Limits → Kept → NamesOp → Kept

@@ -2,3 +2,4 @@ pub mod Held
 pub mod Kept
 pub mod Repository
 pub mod Sizes
+pub mod Watch

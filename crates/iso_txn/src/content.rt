@@ -1,7 +1,9 @@
 ghost use Rattle.std.specs.Prelude.{◌≡◌, ◌<◌, ◌≤◌, ◌^◌, length, if◌then◌else◌, IfOk, OnErr, []};
-ghost use Rattle.std.specs.Option.{is_some};
-ghost use Rattle.change_set.specs.Content.{applied};
+ghost use Rattle.std.specs.Arc.{arc_value};
+ghost use Rattle.std.specs.Option.{is_some, option_map};
+ghost use Rattle.change_set.specs.Content.{applied, named_quads};
 ghost use Rattle.journal.specs.Replies.{within};
+ghost use Rattle.iso_txn.specs.Kept.{changed_within};
 
 use crate::sizes;
 use branch::Branch;
@@ -76,6 +78,20 @@ impl Content {
         Ok(branch)
     }
 
+    /// The same content, which shares what is kept of it.
+    pub(crate) fn share(&self) -> Result<Content, Memory>
+        ensures { IfOk result (λ content. content ≡ self.now) }
+    {
+        Ok(Content {
+            alloc: self.alloc,
+            branch: self.branch.pin()?,
+            quads: self.quads,
+            bytes: self.bytes,
+            changes: self.changes,
+            base: self.base,
+        })
+    }
+
     /// Applies changes where the limits allow what they leave, and answers the exact change of the
     /// content, which others may share; else nothing.
     fn push_within(
@@ -87,6 +103,7 @@ impl Content {
         requires bytes { limits.now.bytes < 2 ^ 62 }
         ensures fits { IfOk result (λ it. is_some it ≡ within limits.now (applied self.old set.now)) }
         ensures content { IfOk result (λ it. self.new ≡ (if is_some it then applied self.old set.now else self.old)) }
+        ensures delta { IfOk result (λ it. option_map (λ delta. named_quads (arc_value delta)) it ≡ changed_within limits.now self.old set.now) }
         ensures memory { OnErr result (self.new ≡ self.old) }
     {
         let delta = self.branch.delta(set)?;
@@ -135,6 +152,7 @@ impl Content {
         requires bytes { limits.now.bytes < 2 ^ 62 }
         ensures fits { IfOk result (λ it. is_some it ≡ within limits.now (applied self.old set.now)) }
         ensures content { IfOk result (λ it. self.new ≡ (if is_some it then applied self.old set.now else self.old)) }
+        ensures delta { IfOk result (λ it. option_map (λ delta. named_quads (arc_value delta)) it ≡ changed_within limits.now self.old set.now) }
         ensures memory { OnErr result (self.new ≡ self.old) }
     {
         let change = self.push_within(limits, set)?;

@@ -13,6 +13,7 @@ mod prefixes;
 mod repository;
 mod sizes;
 mod state;
+mod watch;
 
 pub use pinned::Pinned;
 pub use repository::RepoState;

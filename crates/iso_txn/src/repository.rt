@@ -1,7 +1,8 @@
 ghost use Rattle.std.specs.Prelude.{Some, ◌≡◌, ◌<◌, ◌≤◌, ◌+◌, ◌-◌, ◌^◌, ◌&&◌, nat_le, [], ◌∷◌, ◌++◌, length, true, false, IfOk, OnOk, OnErr, IsErr};
 ghost use Rattle.journal.specs.declared.op.Op.TheVariants as op;
 ghost use Rattle.journal.specs.declared.level.Level.TheVariants as levels;
-ghost use Rattle.journal.specs.Levels.{is_level};
+ghost use Rattle.journal.specs.declared.reply.Reply.TheVariants as replies;
+ghost use Rattle.journal.specs.Alone.{ReadsAsIfAlone};
 ghost use Rattle.journal.specs.Journal.{commits_in, committed_after, entry_of, is_live_after, view_after};
 ghost use Rattle.journal.specs.Legal.{IsInTurn};
 ghost use Rattle.iso_txn.specs.Repository.{AreAllowed, IsFull, next_reply, with_entry};
@@ -100,10 +101,8 @@ impl RepoState {
         self.count >= self.limits.places
     }
 
-    /// Begins a transaction of a level below SERIALIZABLE. Where as many transactions are open as may
-    /// be, the reply is `TooManyOpen`.
+    /// Begins a transaction. Where as many transactions are open as may be, the reply is `TooManyOpen`.
     pub fn begin(&mut self, seat: u32, level: Level) -> Result<Reply, StoreFault>
-        requires below { is_level level levels.Serializable ≡ false }
         ensures reply { IfOk result (λ reply. reply ≡ next_reply self.old (entry_of seat (op.Begin level))) }
         ensures journal { OnOk result (self.new ≡ with_entry self.old (entry_of seat (op.Begin level))) }
         ensures fault { OnErr result (self.new ≡ self.old) }
@@ -139,6 +138,7 @@ impl RepoState {
         }
         let view = self.state.view(txn)?;
         let pinned = Pinned::of(self.alloc, view, self.limits.rows)?;
+        self.state.read(txn, ask)?;
         let entry = Noted::read(seat, txn, ask);
         note(&mut self.journal, &mut self.count, &entry);
         Ok(pinned)
@@ -195,17 +195,23 @@ impl RepoState {
         if self.is_full() {
             return Err(StoreFault::JournalFull);
         }
-        let reply = self.state.write(&self.limits, txn, changes)?;
+        let reply = self.state.write(&self.limits, self.count, txn, changes)?;
         let entry = Noted::write(seat, txn, changes);
         note(&mut self.journal, &mut self.count, &entry);
         Ok(reply)
     }
 
-    /// Commits the changes of a transaction and ends it. Where the content with them is past a limit,
-    /// `TooLarge` answers, and the transaction stays open with its changes.
+    /// Commits the changes of a transaction and ends it. Where an entry since its Begin changed a quad
+    /// that a read of the transaction observed, and the transaction is SERIALIZABLE, the reply is the
+    /// `Conflict` of the least such quad with the first pattern that observed it. Else, where the
+    /// content with the changes is past a limit, it is `TooLarge`. After both the transaction is open
+    /// with its changes.
+    ///
+    /// A SERIALIZABLE transaction whose commit is done read as if it ran alone, at its commit.
     pub fn commit(&mut self, seat: u32, txn: Txn) -> Result<Reply, StoreFault>
         ensures reply { IfOk result (λ reply. reply ≡ next_reply self.old (entry_of seat (op.Commit txn))) }
         ensures journal { OnOk result (self.new ≡ with_entry self.old (entry_of seat (op.Commit txn))) }
+        ensures alone { IfOk result (λ reply. reply ≡ replies.Done → txn.level ≡ levels.Serializable → ReadsAsIfAlone self.old.limits self.new.journal txn (length self.old.journal)) }
         ensures fault { OnErr result (self.new ≡ self.old) }
         ensures full { IsFull self.old → result ≡ Err StoreFault.JournalFull }
         ensures room { result ≡ Err StoreFault.JournalFull → IsFull self.old }
@@ -213,7 +219,7 @@ impl RepoState {
         if self.is_full() {
             return Err(StoreFault::JournalFull);
         }
-        let reply = self.state.commit(&self.limits, txn)?;
+        let reply = self.state.commit(&self.limits, self.count, txn)?;
         let entry = Noted::commit(seat, txn);
         note(&mut self.journal, &mut self.count, &entry);
         Ok(reply)
@@ -230,7 +236,7 @@ impl RepoState {
         if self.is_full() {
             return Err(JournalFull);
         }
-        let reply = self.state.rollback(txn);
+        let reply = self.state.rollback(self.count, txn);
         let entry = Noted::rollback(seat, txn);
         note(&mut self.journal, &mut self.count, &entry);
         Ok(reply)

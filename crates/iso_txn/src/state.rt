@@ -1,27 +1,31 @@
-ghost use Rattle.std.specs.Prelude.{Some, ◌≡◌, ◌<◌, ◌≤◌, ◌^◌, ◌++◌, length, IfOk, OnOk, OnErr};
+ghost use Rattle.std.specs.Prelude.{true, Some, None, ◌≡◌, ◌<◌, ◌≤◌, ◌^◌, ◌++◌, length, IfOk, OnOk, OnErr};
 ghost use Rattle.std.specs.Option.{option_map, unwrap_or};
 ghost use Rattle.branch.specs.Layers.{Layered};
 ghost use Rattle.journal.specs.declared.op.NamesOp.TheVariants as names_op;
 ghost use Rattle.journal.specs.declared.reply.Reply.TheVariants as replies;
 ghost use Rattle.journal.specs.Replies.{names_reply, within};
 ghost use Rattle.change_set.specs.Content.{applied};
-ghost use Rattle.iso_txn.specs.Kept.{begin_answer, begin_kept, commit_answer, commit_kept, content_within, done_if, end_answer, ended, lives, names_kept, nothing_kept, rollback_kept, seen, waiting, write_answer, write_kept};
+ghost use Rattle.journal.specs.Found.{patterns_of};
+ghost use Rattle.iso_txn.specs.Kept.{applied_kept, begin_answer, begin_kept, commit_answer, commit_kept, done_if, end_answer, ended, is_among, lives, names_kept, nothing_kept, read_kept, rollback_kept, seen, waiting, write_answer, write_kept};
+ghost use Rattle.iso_txn.specs.Watch.{AllBefore, IsReady, watched_clash};
 
 use crate::content::Content;
 use crate::lists;
 use crate::opened::OpenTxn;
 use crate::pending::PendingWrite;
 use crate::prefixes::Prefixes;
+use crate::watch::Watch;
 use branch::Branch;
 use change_set::{ChangeSet, Changes};
-use journal::{Limits, NamesOp, Reply, Txn};
+use journal::{Ask, Limits, NamesOp, Reply, Txn};
 use quad_index::Orders;
-use rdf_term::{Memory, Text};
+use rdf_term::{Duplicate, Memory, Pattern, Quad, Text};
 use std::alloc::Global;
 use std::marker::Model;
 
 /// What a repository keeps of its journal: the committed content, the open transactions, their
-/// pending writes in the order of the journal, the prefixes, and the number of accepted commits.
+/// pending writes in the order of the journal, the prefixes, the number of accepted commits, and what
+/// decides whether a SERIALIZABLE transaction conflicts.
 ///
 /// Each call takes all its memory before it changes anything.
 #[derive(Drop)]
@@ -32,6 +36,7 @@ pub(crate) struct State {
     writes: Vec<PendingWrite>,
     prefixes: Prefixes,
     commits: u64,
+    watch: Watch,
 }
 
 impl Model for State {
@@ -39,7 +44,14 @@ impl Model for State {
 
     ghost Value = { Kept };
 
-    ghost view = { λ it. record { content = it.content; open_txns = it.open_txns.items; writes = it.writes.items; prefixes = it.prefixes; commits = it.commits } };
+    ghost view = { λ it. record { content = it.content; open_txns = it.open_txns.items; writes = it.writes.items; prefixes = it.prefixes; commits = it.commits; watch = it.watch } };
+}
+
+/// The reply that a quad was changed that a read observed by this pattern.
+fn conflict(alloc: Global, pattern: &Pattern, quad: &Quad) -> Result<Reply, Memory>
+    ensures { IfOk result (λ reply. reply ≡ replies.Conflict pattern.now quad.now) }
+{
+    Ok(Reply::Conflict(pattern.copy(alloc)?, quad.copy(alloc)?))
 }
 
 impl State {
@@ -56,6 +68,7 @@ impl State {
             writes: Vec::new(alloc),
             prefixes: Prefixes::new(alloc),
             commits: 0,
+            watch: Watch::new(alloc),
         })
     }
 
@@ -94,22 +107,54 @@ impl State {
             return Ok(Reply::TooManyOpen);
         }
         let opened = OpenTxn::begin(&self.content, txn)?;
+        self.open_txns.try_reserve(1)?;
+        self.watch.begin(txn)?;
         self.open_txns.push(opened)?;
         Ok(Reply::Begun(txn))
     }
 
-    /// Applies changes to the committed content where the limits allow it.
-    fn write_now(&mut self, limits: &Limits, changes: &Changes) -> Result<Reply, Memory>
+    /// Keeps what a read observes.
+    pub(crate) fn read(&mut self, txn: Option<Txn>, ask: &Ask) -> Result<(), Memory>
+        ensures state { OnOk result (self.new ≡ read_kept self.old txn (patterns_of ask.now)) }
+        ensures memory { OnErr result (self.new ≡ self.old) }
+    {
+        self.watch.read(txn, ask)
+    }
+
+    /// The entry at a place applies changes to the committed content where the limits allow it, and
+    /// tells whether they do.
+    fn apply(&mut self, limits: &Limits, place: u64, set: &ChangeSet) -> Result<bool, Memory>
         requires quads { limits.now.quads < 2 ^ 62 }
         requires bytes { limits.now.bytes < 2 ^ 62 }
+        requires below { AllBefore place self.old.watch.changed }
+        ensures fits { IfOk result (λ fits. fits ≡ within limits.now (applied self.old.content set.now)) }
+        ensures state { OnOk result (self.new ≡ applied_kept limits.now place self.old set.now) }
+        ensures memory { OnErr result (self.new ≡ self.old) }
+    {
+        // The content stays as it is until all memory is found.
+        let mut content = self.content.share()?;
+        let Some(delta) = content.apply(limits, set)? else {
+            return Ok(false);
+        };
+        self.watch.note(place, delta)?;
+        self.content = content;
+        Ok(true)
+    }
+
+    /// The entry at a place applies changes to the committed content where the limits allow it.
+    fn write_now(&mut self, limits: &Limits, place: u64, changes: &Changes) -> Result<Reply, Memory>
+        requires quads { limits.now.quads < 2 ^ 62 }
+        requires bytes { limits.now.bytes < 2 ^ 62 }
+        requires below { AllBefore place self.old.watch.changed }
         ensures reply { IfOk result (λ reply. reply ≡ done_if (within limits.now (applied self.old.content changes.now))) }
-        ensures state { OnOk result (self.new ≡ record self.old { content = content_within limits.now self.old.content changes.now }) }
+        ensures state { OnOk result (self.new ≡ applied_kept limits.now place self.old changes.now) }
         ensures memory { OnErr result (self.new ≡ self.old) }
     {
         let set = ChangeSet::from_changes(self.alloc, changes.as_slice())?;
-        match self.content.apply(limits, &set)? {
-            Some(_) => Ok(Reply::Done),
-            None => Ok(Reply::TooLarge),
+        if self.apply(limits, place, &set)? {
+            Ok(Reply::Done)
+        } else {
+            Ok(Reply::TooLarge)
         }
     }
 
@@ -124,27 +169,29 @@ impl State {
         Ok(Reply::Done)
     }
 
-    /// Writes changes, in a transaction or in none.
+    /// The entry at a place writes changes, in a transaction or in none.
     pub(crate) fn write(
         &mut self,
         limits: &Limits,
+        place: u64,
         txn: Option<Txn>,
         changes: &Changes,
     ) -> Result<Reply, Memory>
         requires quads { limits.now.quads < 2 ^ 62 }
         requires bytes { limits.now.bytes < 2 ^ 62 }
+        requires below { AllBefore place self.old.watch.changed }
         ensures reply { IfOk result (λ reply. reply ≡ write_answer limits.now self.old txn changes.now) }
-        ensures state { OnOk result (self.new ≡ write_kept limits.now self.old txn changes.now) }
+        ensures state { OnOk result (self.new ≡ write_kept limits.now place self.old txn changes.now) }
         ensures memory { OnErr result (self.new ≡ self.old) }
     {
         if !self.is_live(txn) {
             return Ok(Reply::NoTransaction);
         }
         match txn {
-            None => self.write_now(limits, changes),
+            None => self.write_now(limits, place, changes),
             Some(open_txn) => {
                 if Txn::commits_at_once(txn) {
-                    self.write_now(limits, changes)
+                    self.write_now(limits, place, changes)
                 } else {
                     self.write_later(open_txn, changes)
                 }
@@ -152,44 +199,70 @@ impl State {
         }
     }
 
-    /// Ends an open transaction, whose pending writes go with it.
-    fn end(&mut self, txn: Txn)
-        ensures { self.new ≡ ended self.old txn }
+    /// The entry at a place ends an open transaction, whose pending writes go with it.
+    fn end(&mut self, place: u64, txn: Txn)
+        requires { place < 2 ^ 62 }
+        ensures { self.new ≡ ended place self.old txn }
     {
         lists::close(&mut self.open_txns, txn);
         lists::discard(&mut self.writes, txn);
+        self.watch.end(place, txn);
     }
 
-    /// Commits the writes of a transaction where the limits allow it.
-    pub(crate) fn commit(&mut self, limits: &Limits, txn: Txn) -> Result<Reply, Memory>
+    /// The entry at a place commits the writes of an open transaction that doesn't conflict, where the
+    /// limits allow it.
+    fn commit_open(&mut self, limits: &Limits, place: u64, txn: Txn) -> Result<Reply, Memory>
         requires quads { limits.now.quads < 2 ^ 62 }
         requires bytes { limits.now.bytes < 2 ^ 62 }
+        requires place { place < 2 ^ 62 }
         requires commits { self.old.commits < 2 ^ 62 }
+        requires below { AllBefore place self.old.watch.changed }
+        requires live { is_among txn self.old.open_txns ≡ true }
+        requires free { watched_clash self.old.watch txn ≡ None }
         ensures reply { IfOk result (λ reply. reply ≡ commit_answer limits.now self.old txn) }
-        ensures state { OnOk result (self.new ≡ commit_kept limits.now self.old txn) }
+        ensures state { OnOk result (self.new ≡ commit_kept limits.now place self.old txn) }
+        ensures memory { OnErr result (self.new ≡ self.old) }
+    {
+        let own = lists::own_changes(self.alloc, &self.writes, txn)?;
+        if !self.apply(limits, place, &own)? {
+            return Ok(Reply::TooLarge);
+        }
+        self.end(place, txn);
+        self.commits += 1;
+        Ok(Reply::Done)
+    }
+
+    /// The entry at a place commits the writes of a transaction where nothing that it read was changed
+    /// since it began, and where the limits allow it.
+    pub(crate) fn commit(&mut self, limits: &Limits, place: u64, txn: Txn) -> Result<Reply, Memory>
+        requires quads { limits.now.quads < 2 ^ 62 }
+        requires bytes { limits.now.bytes < 2 ^ 62 }
+        requires place { place < 2 ^ 62 }
+        requires commits { self.old.commits < 2 ^ 62 }
+        requires ready { IsReady place self.old.watch }
+        ensures reply { IfOk result (λ reply. reply ≡ commit_answer limits.now self.old txn) }
+        ensures state { OnOk result (self.new ≡ commit_kept limits.now place self.old txn) }
         ensures memory { OnErr result (self.new ≡ self.old) }
     {
         if !self.is_live(Some(txn)) {
             return Ok(Reply::NoTransaction);
         }
-        let own = lists::own_changes(self.alloc, &self.writes, txn)?;
-        if self.content.apply(limits, &own)?.is_none() {
-            return Ok(Reply::TooLarge);
+        if let Some((pattern, quad)) = self.watch.clash(txn) {
+            return conflict(self.alloc, pattern, quad);
         }
-        self.end(txn);
-        self.commits += 1;
-        Ok(Reply::Done)
+        self.commit_open(limits, place, txn)
     }
 
-    /// Ends a transaction without its pending writes.
-    pub(crate) fn rollback(&mut self, txn: Txn) -> Reply
+    /// The entry at a place ends a transaction without its pending writes.
+    pub(crate) fn rollback(&mut self, place: u64, txn: Txn) -> Reply
+        requires { place < 2 ^ 62 }
         ensures reply { result ≡ end_answer self.old txn }
-        ensures state { self.new ≡ rollback_kept self.old txn }
+        ensures state { self.new ≡ rollback_kept place self.old txn }
     {
         if !self.is_live(Some(txn)) {
             return Reply::NoTransaction;
         }
-        self.end(txn);
+        self.end(place, txn);
         Reply::Done
     }
 

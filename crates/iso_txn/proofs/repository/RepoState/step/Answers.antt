@@ -5,6 +5,7 @@ use Rattle.journal.specs.Journal.{entry_of, is_live_after, view_after}
 use Rattle.iso_txn.specs.Repository.{PinnedRead, Repository}
 use Rattle.iso_txn.proofs.Calls.{step_stands}
 use Rattle.iso_txn.proofs.Holding.{holds_noted, room_left}
+use Rattle.iso_txn.proofs.WatchCalls.{step_watch}
 use Rattle.iso_txn.proofs.Views.{live_is, seen_open}
 use Rattle.iso_txn.proofs.repository.RepoState.step.Goals as goal
 
@@ -16,7 +17,9 @@ invariant_of-self c =
     let room : length s.journal < s.limits.places = room_left s.limits s.journal c.args.self.now c.is_full.result c.self.view_is c.is_full.ensures c.if-is_full.false in
     holds_noted s.limits s.count s.journal s.state h e c.step-entry.result c.note.new.count c.note.new.journal s.state s.state room
     c.step-entry.ensures c.note.ensures.count c.note.ensures.journal refl
-    (step_stands s.limits s.journal s.state h.stands c.args.seat c.args.txn c.args.query.now c.args.number) h.below
+    (step_stands s.limits s.journal s.state h.stands c.args.seat c.args.txn c.args.query.now c.args.number)
+    (step_watch s.limits s.journal s.state h.stands h.watches c.args.seat c.args.txn c.args.query.now c.args.number (step_stands s.limits s.journal s.state h.stands c.args.seat c.args.txn c.args.query.now c.args.number))
+    h.idle
 
 pub returns-clause-live : goal.returns-clause-live
 returns-clause-live c =
