@@ -1,0 +1,10 @@
+pub mod CallableLemmas
+pub mod CheckLemmas
+pub mod ContentLemmas
+pub mod Examples
+pub mod JoinLemmas
+pub mod LawLemmas
+pub mod OriginLemmas
+pub mod ParameterLemmas
+pub mod ResourceLemmas
+pub mod ValidLemmas

@@ -1,0 +1,12 @@
+pub mod Accepts
+pub mod Calls
+pub mod Checks
+pub mod Content
+pub mod Joins
+pub mod Laws
+pub mod Names
+pub mod Parameters
+pub mod Paths
+pub mod Queries
+pub mod Resources
+pub mod Tasks
