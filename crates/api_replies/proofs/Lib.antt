@@ -1,0 +1,6 @@
+mod Examples
+pub mod FitLemmas
+pub mod PutLemmas
+pub mod RowLemmas
+pub mod ShortLemmas
+pub mod TextLemmas
