@@ -1,0 +1,10 @@
+pub mod AnswerLemmas
+pub mod EnterLemmas
+pub mod HouseLemmas
+pub mod MarkLemmas
+pub mod SendLemmas
+pub mod ServeLemmas
+pub mod SessionLemmas
+pub mod StepLemmas
+pub mod StopLemmas
+pub mod TurnLemmas

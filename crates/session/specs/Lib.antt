@@ -1,0 +1,11 @@
+pub mod Answering
+pub mod Causes
+pub mod Ends
+pub mod Entering
+pub mod Houses
+pub mod Marks
+pub mod Refusals
+pub mod Sending
+pub mod Steps
+pub mod Stores
+pub mod Turns
