@@ -1,0 +1,10 @@
+use Rattle.std.proofs.Common.{subst, sym, ◌∙◌}
+use Rattle.iso_txn.specs.Repository.{AreAllowed}
+use Rattle.shared_repo.proofs.PassLemmas.{first_passes}
+use Rattle.shared_repo.proofs.repo.Repo.new.Goals as goal
+
+pub returns-clause-passes : goal.returns-clause-passes
+returns-clause-passes c =
+    let made = c.in_ok-lock.ensures in
+    first_passes c.legal_in_turn.ensures (record { lock = c.in_ok-lock.lock }) 0 c.in_ok-lock.passes.items
+    (subst AreAllowed (sym (made.fixed ∙ c.in_ok-state.ensures.limits)) c.requires.limits) made.passes made.new
