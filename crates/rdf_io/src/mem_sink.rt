@@ -54,6 +54,13 @@ impl MemSink {
         self.bytes.as_slice()
     }
 
+    /// How many calls failed.
+    pub fn faults(&self) -> u64
+        ensures { result ≡ self.now.count }
+    {
+        self.count
+    }
+
     /// Counts this call, and says whether it is one that fails.
     fn fails_now(&mut self) -> bool
         ensures got { self.new ≡ record self.old { calls = self.new.calls; count = self.new.count } }

@@ -56,6 +56,13 @@ impl MemSource {
             count: 0,
         }
     }
+
+    /// How many calls failed.
+    pub fn faults(&self) -> u64
+        ensures { result ≡ self.now.count }
+    {
+        self.count
+    }
 }
 
 /// How many of the bytes that fit the call of this number gives.

@@ -29,6 +29,13 @@ impl<R: Read> ReaderSource<R> {
     {
         ReaderSource { inner, count: 0 }
     }
+
+    /// How many reads failed.
+    pub fn faults(&self) -> u64
+        ensures { result ≡ ⟦<ReaderSource<R> as Source>⟧.faults self.now }
+    {
+        self.count
+    }
 }
 
 impl<R: Read> Source for ReaderSource<R> {
@@ -72,6 +79,13 @@ impl<W: Write> WriterSink<W> {
         ensures taken { ⟦<WriterSink<W> as Sink>⟧.taken result ≡ W.contents inner }
     {
         WriterSink { inner, count: 0 }
+    }
+
+    /// How many writes and flushes failed.
+    pub fn faults(&self) -> u64
+        ensures { result ≡ ⟦<WriterSink<W> as Sink>⟧.faults self.now }
+    {
+        self.count
     }
 }
 
