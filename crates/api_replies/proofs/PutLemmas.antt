@@ -4,7 +4,7 @@ use Rattle.std.specs.Prelude.{IsOk, OnOk}
 use Rattle.std.specs.declared.result.Result.{Result}
 use Rattle.journal.specs.declared.txn.Txn.{Txn}
 use Rattle.http_frame.specs.Wire.{field_lines}
-use Rattle.api_replies.specs.Ids.{name_of}
+use Rattle.api_paths.specs.TransactionNames.{name_of}
 use Rattle.api_replies.specs.Parts.{created}
 
 -- no room is lost where bytes are put into spare ones

@@ -1,9 +1,9 @@
--- IDs of repositories and names of transactions, as they stand in paths.
-use Rattle.std.specs.Prelude.{ℕ, Bool, false, ◌&&◌, ◌||◌, ◌==◌, List, [], ◌∷◌, ◌++◌, length, nat_le, codes, decimal, encode_utf8_all}
+-- IDs of repositories and paths of transactions.
+use Rattle.std.specs.Prelude.{ℕ, Bool, false, ◌&&◌, ◌||◌, ◌==◌, List, [], ◌∷◌, ◌++◌, length, nat_le, codes, encode_utf8_all}
 use Rattle.std.specs.List.{list_all}
 use Rattle.std.specs.Char.{is_ascii_alphanumeric}
 use Rattle.journal.specs.declared.txn.Txn.{Txn}
-use Rattle.journal.specs.Levels.{level_number}
+use Rattle.api_paths.specs.TransactionNames.{name_of}
 
 -- a letter or a digit, `_` or `-`
 abbrev pub is_id_char : ℕ → Bool
@@ -13,10 +13,6 @@ is_id_char c = is_ascii_alphanumeric c || c == 95 || c == 45
 abbrev pub is_id : List ℕ → Bool
 is_id [] = false
 is_id (c ∷ cs) = is_ascii_alphanumeric c && nat_le (length cs) 63 && list_all is_id_char cs
-
--- the name of a transaction: the place of its Begin, a hyphen, and the number of its level
-abbrev pub name_of : Txn → List ℕ
-name_of t = decimal t.place ++ codes "-" ++ decimal (level_number t.level)
 
 -- the path of a transaction of a repository, in bytes
 abbrev pub path_of : List ℕ → Txn → List ℕ

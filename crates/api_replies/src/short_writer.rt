@@ -1,7 +1,8 @@
 //! The bytes of responses that are written without memory, into spare room.
 ghost use Rattle.std.specs.Prelude.{◌≡◌, ◌≤◌, ◌+◌, ◌++◌, ℕ, List, IsTrue, length};
 ghost use Rattle.http_frame.specs.Wire.{closing, field_line, field_lines, framed, length_line, reason, status_line};
-ghost use Rattle.api_replies.specs.Ids.{is_id, name_of};
+ghost use Rattle.api_paths.specs.TransactionNames.{name_of};
+ghost use Rattle.api_replies.specs.Ids.{is_id};
 ghost use Rattle.api_replies.specs.Parts.{created, type_field};
 ghost use Rattle.media.specs.declared.form.Form.TheVariants.{PlainText};
 ghost use Rattle.api_replies.specs.Shorts.{short_bytes, short_of, short_response};

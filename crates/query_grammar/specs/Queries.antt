@@ -10,7 +10,7 @@ use Rattle.query_grammar.specs.declared.built.Built.{Built}
 use Rattle.query_grammar.specs.Said.{Said}
 use Rattle.query_grammar.specs.Classes.{is_unsupported}
 use Rattle.query_grammar.specs.Grammar.{Tree, said}
-use Rattle.query_grammar.specs.Built.{refusal, add, empty}
+use Rattle.query_grammar.specs.Built.{refusal, add, query_of, empty}
 use Rattle.query_grammar.specs.Meaning.{query_in}
 
 abbrev pub tokens : List Said → List Token
@@ -20,6 +20,10 @@ tokens ss = map (λ (s : Said). s.token) ss
 abbrev pub built : Built → List Said → Built
 built b [] = b
 built b (s ∷ ss) = built (add b s.role s.token) ss
+
+-- what the tokens of a tree add one by one is the query that its rules give
+abbrev pub MeaningIsBuilt : Type 0
+MeaningIsBuilt = (tree : Tree) → query_of (built empty (said tree)) ≡ query_in tree
 
 -- none of these tokens of a query is refused
 abbrev pub is_fine : Built → List Said → Bool

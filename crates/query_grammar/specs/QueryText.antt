@@ -39,3 +39,7 @@ IsFaultOf text (fault.UnknownPrefix at) = IsQueryFault text (fault.UnknownPrefix
 -- a text has at most one query
 abbrev pub OneQuery : Type 0
 OneQuery = (text : List ℕ) (q r : Query) → IsQueryText text q → IsQueryText text r → q ≡ r
+
+-- and at most one fault
+abbrev pub OneFault : Type 0
+OneFault = (text : List ℕ) (e f : QueryFault) → IsQueryFault text e → IsQueryFault text f → e ≡ f

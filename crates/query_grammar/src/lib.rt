@@ -15,5 +15,5 @@ mod text;
 mod values;
 
 pub use fault::QueryFault;
-pub use laws::one_query;
+pub use laws::{meaning_is_built, one_fault, one_query};
 pub use text::parse_query;

@@ -7,7 +7,7 @@ ghost use Rattle.query_grammar.specs.Classes.{is_label};
 ghost use Rattle.query_grammar.specs.Values.{count_in, iri_refusal, iri_slot, named, number_type, part_refusal, slot_of, text_of, typed, unless, with_tag, with_type, xsd_boolean};
 
 use crate::fault::Kind;
-use crate::parts::{count_of, is_short, is_sound_iri};
+use crate::parts::{count_of, is_sound_iri};
 use crate::prefixes::Prefixes;
 use query_model::Slot;
 use query_tokens::{Number, Token};
@@ -16,9 +16,6 @@ use std::alloc::Global;
 
 /// The IRI that `a` stands for.
 const RDF_TYPE: &str = "http://www.w3.org/1999/02/22-rdf-syntax-ns#type";
-
-/// The datatype of a plain literal (RDF 1.1 Concepts, section 3.3).
-const XSD_STRING: &str = "http://www.w3.org/2001/XMLSchema#string";
 
 const XSD_BOOLEAN: &str = "http://www.w3.org/2001/XMLSchema#boolean";
 
@@ -128,7 +125,7 @@ pub fn slot_of(alloc: Global, prefixes: &Prefixes, token: &Token) -> Result<Slot
 fn typed(text: Text, datatype: Text) -> Term
     ensures { result ≡ typed text datatype }
 {
-    if datatype.as_str() == XSD_STRING {
+    if datatype.is_xsd_string() {
         Term::Plain(text)
     } else {
         Term::Typed(text, datatype)
@@ -224,10 +221,10 @@ pub fn part_refusal(
         Token::Name(prefix, local) => {
             iri_refusal(named(alloc, prefixes.namespace(prefix), local)?.as_ref())
         }
-        Token::Label(text) => unless(is_short(text), Kind::Unsupported),
-        Token::Str(text) => unless(is_short(text), Kind::Unsupported),
-        Token::Tag(text) => unless(is_short(text), Kind::Unsupported),
-        Token::Number(_, text) => unless(is_short(text), Kind::Unsupported),
+        Token::Label(text) => unless(text.is_short(), Kind::Unsupported),
+        Token::Str(text) => unless(text.is_short(), Kind::Unsupported),
+        Token::Tag(text) => unless(text.is_short(), Kind::Unsupported),
+        Token::Number(_, text) => unless(text.is_short(), Kind::Unsupported),
         Token::Quotes => Some(Kind::Unsupported),
         _ => None,
     })

@@ -12,13 +12,13 @@ use Rattle.query_tokens.specs.declared.token.Token.{Token}
 use Rattle.query_tokens.specs.declared.token.Token.TheVariants as token
 use Rattle.query_tokens.specs.declared.kind.Quoted.{Quoted}
 use Rattle.query_tokens.specs.declared.kind.Quoted.TheVariants as form
-use Rattle.query_tokens.specs.Classes.{is_var_char, is_name_char, is_dotted, is_label_start, is_alphanumeric}
+use Rattle.query_tokens.specs.Classes.{is_alphanumeric}
 use Rattle.query_tokens.specs.Lexemes
-use Rattle.query_tokens.specs.Lexemes.{In, chars, optional, Ends, ends, Prefix, prefix, LocalPiece, local_piece, local_value, local_pieces, local_values, LocalEnds, Local, local, local_ends, local_ends_value, Hex, Piece, piece, pieces, meaning, meanings, short_meaning, TagPart, tag_parts, numeral, Lexeme, Word, Name, Between, DoubleQuotes, SingleQuotes, Var, Label, Tag, Number, Mark, Carets, spelling, value, mark_of, name_value, quoted_value}
+use Rattle.query_tokens.specs.Lexemes.{In, chars, optional, Ends, ends, Prefix, prefix, LocalPiece, local_piece, local_value, local_pieces, local_values, LocalEnds, Local, local, local_ends, local_ends_value, Hex, Piece, piece, pieces, meaning, meanings, TagPart, tag_parts, numeral, Lexeme, Word, Name, Between, DoubleQuotes, SingleQuotes, Var, Label, Tag, Number, Mark, Carets, spelling, value, mark_of, name_value, quoted_value}
 use Rattle.query_tokens.specs.Tokens.{AreTokens, behind_space, is_blank, is_line_end}
 use Rattle.query_tokens.specs.Words.{is_word, is_left_out, word_of}
 use Rattle.query_grammar.specs.Answers.{tokens_of}
-use Rattle.query_model.specs.WellFormed.{IsVarName, is_var_name, is_label, is_label_rest}
+use Rattle.query_model.specs.WellFormed.{is_var_char, is_name_char, is_dotted, is_label_start, IsVarName, is_var_name, is_label, is_label_rest}
 
 -- a token's text is one of Unicode characters, and a name, a label and a tag are of their grammar
 abbrev pub IsGood : Token → Type 0

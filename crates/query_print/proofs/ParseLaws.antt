@@ -20,9 +20,8 @@ use Rattle.query_grammar.specs.Built.{is_template, refusal, add, query_as, query
 use Rattle.query_grammar.specs.Grammar
 use Rattle.query_grammar.specs.Grammar.{say, mark, optional, SlotTree, Word, Literal, Bare, Tagged, Typed, subject, object, more_objects, Part, part, Same, more_parts, same, Block, more_same, block, optional_block, GraphTree, Group, inside, graph, graphs, group, Cut, Cuts, Turned, limit, offset, cut, Modifier, Projection, modifier, vars, projection, Kind, kind, prefixes, said}
 use Rattle.query_grammar.specs.Names.{with_slot, with_scope, with_pattern, standing}
-use Rattle.query_grammar.specs.Queries.{built}
+use Rattle.query_grammar.specs.Queries.{built, MeaningIsBuilt}
 use Rattle.query_grammar.specs.Values.{Namespaces, declare, text_of}
-use Rattle.query_grammar.proofs.MeaningLaws.{tree_reads}
 use Rattle.query_print.specs.Laws.{ParsedAreWellFormed}
 use Rattle.query_model.specs.WellFormed.{IsVarName, IsSlot, IsScope, IsPattern, AreProjected, ArePatterns, IsWellFormed}
 use Rattle.query_print.proofs.Known.{IsGood, tokens_good}
@@ -287,9 +286,9 @@ prefixes_known [] k ns p h = kind_known k ns p h
 prefixes_known (x ∷ ps) k ns p h = λ s.
     prefixes_known ps k (declare ns x.0 x.1) x.0 (declared_namespaces ns x.0 x.1 h s.2.2.1) s.2.2.2
 
-pub parsed_known : ParsedAreWellFormed
-parsed_known = λ text q u h.
+pub parsed_known : MeaningIsBuilt → ParsedAreWellFormed
+parsed_known reads = λ text q u h.
     let tree = h.query.tree in
     let good = tokens_good (length text) (chars text) h.tokens (scalars-chars text u) h.are in
     let sound : Sound empty (said tree) = sound_of (said tree) empty h.query.fine (subst (AllByRecursion IsGood) (sym h.query.is) good) in
-    subst IsWellFormed (tree_reads tree ∙ sym h.query.query) (prefixes_known tree.prefixes tree.kind [] [] tt sound)
+    subst IsWellFormed (reads tree ∙ sym h.query.query) (prefixes_known tree.prefixes tree.kind [] [] tt sound)

@@ -12,12 +12,11 @@ use Rattle.query_grammar.specs.Queries.{IsQuery, tokens}
 use Rattle.query_grammar.specs.QueryText.{AreTokensOf}
 use Rattle.query_print.specs.Printed.{printed}
 use Rattle.query_model.specs.WellFormed.{AreProjected, IsWellFormed}
-use Rattle.query_print.specs.Laws.{PrintedAreReadAgain, WellFormedWhereRead}
+use Rattle.query_print.specs.Laws.{ParsedAreWellFormed, PrintedAreReadAgain, WellFormedWhereRead}
 use Rattle.query_print.proofs.Trees.{group_tree, cut_tree, modifier_tree, projection_tree, query_tree, group_means, template_means, cut_means}
 use Rattle.query_print.proofs.Fine.{query_fine}
 use Rattle.query_print.proofs.Joined.{query_says}
 use Rattle.query_print.proofs.NameLemmas.{firsts-once, none_stands}
-use Rattle.query_print.proofs.ParseLaws.{parsed_known}
 use Rattle.query_print.proofs.Scalars.{printed_scalars}
 
 distinct_means : (d : Bool) → is_distinct (modifier_tree d) ≡ d
@@ -51,8 +50,8 @@ printed_again parted = λ q h.
     let is_query : IsQuery (tokens (said (query_tree q))) q = record { tree = query_tree q; is = refl; fine = query_fine q h; query = sym (query_means q h) } in
     record { tokens = w.0; are = are; query = subst (λ ts. IsQuery ts q) (sym w.2) is_query }
 
-pub where_read : PartedTokens → WellFormedWhereRead
-where_read parted = λ q. (
+pub where_read : PartedTokens → ParsedAreWellFormed → WellFormedWhereRead
+where_read parted known = λ q. (
   λ h. (encode_utf8_all (printed q), (printed q, (printed_scalars q h, refl)), printed_again parted q h),
-  λ w. parsed_known w.0 q w.1 w.2,
+  λ w. known w.0 q w.1 w.2,
 )

@@ -12,12 +12,12 @@ use Rattle.query_tokens.specs.declared.token.Token.TheVariants as token
 use Rattle.query_tokens.specs.declared.token.Number.TheVariants as number
 use Rattle.query_tokens.specs.declared.kind.Quoted.{Quoted}
 use Rattle.query_tokens.specs.declared.kind.Quoted.TheVariants as form
-use Rattle.query_tokens.specs.Classes.{is_var_char, is_name_char, is_dotted, is_label_start, is_alphanumeric, is_raw, is_mark, closing}
+use Rattle.query_tokens.specs.Classes.{is_alphanumeric, is_raw, is_mark, closing}
 use Rattle.query_tokens.specs.Laws.{PartedTokens, is_parted}
 use Rattle.query_tokens.specs.Lexemes.{In, chars, Ends, ends, Piece, Raw, Short, pieces, meanings, TagPart, tag_parts, Whole, Lexeme, Word, Between, Var, Label, Tag, Number, Mark, Carets, mark_of}
 use Rattle.query_tokens.specs.Tokens.{from_token, behind_space, is_blank}
 use Rattle.query_tokens.specs.Words.{word_of}
-use Rattle.query_model.specs.WellFormed.{is_var_name, is_label, is_label_rest}
+use Rattle.query_model.specs.WellFormed.{is_var_char, is_name_char, is_dotted, is_label_start, is_var_name, is_label, is_label_rest}
 use Rattle.query_print.proofs.Lexed.{Lexes, is_end, lexeme_lexes}
 
 -- characters of a class

@@ -3,7 +3,7 @@
 //! of a query.
 #![tactic(auto)]
 
-pub use query_grammar::{QueryFault, one_query, parse_query};
+pub use query_grammar::{QueryFault, one_fault, one_query, parse_query};
 pub use query_model::{
     Cut, Found, Names1, Patterns, Query, Row, Rows, Scope, Slot, Table, TriplePattern,
     is_well_formed, lookups_of, pattern_of,

@@ -3,7 +3,7 @@ use Rattle.std.proofs.Common.{◌≡◌, refl, ◌∙◌, sym, ap, subst, ℕ, s
 use Rattle.std.specs.Char.{digit_value}
 use Rattle.std.proofs.lemmas.Bool.Decides.{nat_tests}
 use lib.Utf8.{scalar}
-use Rattle.rdf_term.specs.Classes.{is_digit, is_letter, is_one_of}
+use Rattle.rdf_term.specs.Classes.{is_digit, is_letter, is_one_of, is_hex_digit}
 use Rattle.query_tokens.specs.declared.token.Number.TheVariants as number
 use Rattle.query_tokens.specs.declared.token.Number.{Number as NumberKind}
 use Rattle.query_tokens.specs.declared.kind.Kind.{Kind}
@@ -12,7 +12,8 @@ use Rattle.query_tokens.specs.declared.kind.Quoted.{Quoted}
 use Rattle.query_tokens.specs.declared.kind.Quoted.TheVariants as quoted
 use Rattle.query_tokens.specs.declared.state.State.{State}
 use Rattle.query_tokens.specs.declared.state.State.TheVariants as state
-use Rattle.query_tokens.specs.Classes.{is_base, is_name_char, is_dotted, is_label_start, is_var_char, is_local_start, is_local_char, is_local_dotted, is_local_escape, is_hex_digit, is_alphanumeric, is_exponent_mark, is_sign, is_mark, closing, is_raw, is_short_escape}
+use Rattle.query_model.specs.WellFormed.{is_name_char, is_dotted, is_label_start, is_var_char}
+use Rattle.query_tokens.specs.Classes.{is_base, is_local_start, is_local_char, is_local_dotted, is_local_escape, is_alphanumeric, is_exponent_mark, is_sign, is_mark, closing, is_raw, is_short_escape}
 use Rattle.query_tokens.specs.Lexemes.{In, chars, Ends, ends, LocalPiece, Plain, Percent, Escaped, local_piece, LocalEnds, local_ends, Piece, Raw, Short, Four, Eight, Exponent, Pointed, Fraction, Bare, Numeral, numeral, numeral_kind, Whole, Decimal, Double, Lexeme, Word, Name, Between, DoubleQuotes, SingleQuotes, Var, Label, Tag, Number, Mark, Carets}
 use Rattle.query_tokens.specs.Scanner.{lookup, marks_begin, quoted_kind, adds_digit, in_hex, next, when, either}
 use Rattle.query_tokens.proofs.Cases.{at, same_char, left_or, split, of_char, letter_base, letter_name, name_dotted}

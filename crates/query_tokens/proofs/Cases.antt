@@ -2,7 +2,8 @@
 use Rattle.std.proofs.Common.{◌≡◌, refl, ◌∙◌, sym, ap, subst, ℕ, Bool, true, false, ◌==◌, ◌&&◌, ◌||◌, if◌then◌else◌, List, [], ◌∷◌, nat_le, nat_lt, IsTrue, ◌≤◌, arith}
 use Rattle.std.proofs.lemmas.Bool.Decides.{Decides-eqb, nat_tests}
 use Rattle.rdf_term.specs.Classes.{is_in, is_one_of, is_digit, is_letter, pn_chars_base}
-use Rattle.query_tokens.specs.Classes.{is_base, is_name_start, is_var_char, is_name_char, is_dotted}
+use Rattle.query_model.specs.WellFormed.{is_name_start, is_var_char, is_name_char, is_dotted}
+use Rattle.query_tokens.specs.Classes.{is_base}
 use Rattle.query_tokens.specs.Lexemes.{In}
 
 abbrev pub at : {class : ℕ → Bool} (c : ℕ) → class c ≡ true → In class

@@ -4,7 +4,7 @@ use Rattle.std.specs.Char.{digit_value}
 use Rattle.std.proofs.lemmas.Bool.Decides.{nat_tests}
 use Rattle.std.proofs.Math.Utf8.{scalar_cases}
 use lib.Utf8.{scalar}
-use Rattle.rdf_term.specs.Classes.{is_digit, is_letter, is_one_of}
+use Rattle.rdf_term.specs.Classes.{is_digit, is_letter, is_one_of, is_hex_digit}
 use Rattle.query_tokens.specs.declared.token.Number.{Number as NumberKind}
 use Rattle.query_tokens.specs.declared.token.Number.TheVariants as number
 use Rattle.query_tokens.specs.declared.kind.Kind.{Kind}
@@ -14,7 +14,8 @@ use Rattle.query_tokens.specs.declared.kind.Quoted.TheVariants as quoted
 use Rattle.query_tokens.specs.declared.state.State.{State}
 use Rattle.query_tokens.specs.declared.state.State.TheVariants as state
 use Rattle.query_tokens.specs.declared.emit.Part.TheVariants as part
-use Rattle.query_tokens.specs.Classes.{is_base, is_name_char, is_dotted, is_label_start, is_var_char, is_local_start, is_local_char, is_local_dotted, is_local_escape, is_hex_digit, is_alphanumeric, is_exponent_mark, is_sign, is_mark, marks, closing, is_raw, is_short_escape}
+use Rattle.query_model.specs.WellFormed.{is_name_char, is_dotted, is_label_start, is_var_char}
+use Rattle.query_tokens.specs.Classes.{is_base, is_local_start, is_local_char, is_local_dotted, is_local_escape, is_alphanumeric, is_exponent_mark, is_sign, is_mark, marks, closing, is_raw, is_short_escape}
 use Rattle.query_tokens.specs.Lexemes.{In, chars, Ends, ends, Prefix, LocalPiece, Plain, Percent, Escaped, local_piece, local_pieces, local_value, local_values, LocalEnds, Local, local_ends, local_ends_value, local, hex_number, Piece, Raw, Short, Four, Eight, meanings, TagPart, tag_parts, Exponent, exponent, Pointed, Fraction, Bare, Numeral, numeral, numeral_kind, Whole, Decimal, Double, Lexeme, Word, Name, Between, DoubleQuotes, SingleQuotes, Var, Label, Tag, Number, Mark, Carets, spelling}
 use Rattle.query_tokens.specs.Scanner.{in_prefix, in_local, in_label, in_quotes, quoted_kind, adds_digit, next, when, either, accepts, Texts, no_texts, entered, emit, add, emitted}
 use Rattle.query_tokens.proofs.Cases.{other_or, both, by_case, then_is, else_is, apart, AllOf, member, name_dotted, digit_no_base, digit_no_letter}

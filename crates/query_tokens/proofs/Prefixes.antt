@@ -7,7 +7,8 @@ use Rattle.query_tokens.specs.declared.token.Number.TheVariants as number
 use Rattle.query_tokens.specs.declared.kind.Kind.{Kind}
 use Rattle.query_tokens.specs.declared.state.State.{State}
 use Rattle.query_tokens.specs.declared.state.State.TheVariants as state
-use Rattle.query_tokens.specs.Classes.{is_base, is_name_char, is_var_char, is_name_start}
+use Rattle.query_model.specs.WellFormed.{is_name_char, is_var_char, is_name_start}
+use Rattle.query_tokens.specs.Classes.{is_base}
 use Rattle.query_tokens.specs.Scanner.{next, accepts, longest, further, at_least, lookup, marks_begin, in_prefix, or_later, IsSearched, is_named, is_prefix, searched_to}
 use Rattle.query_tokens.proofs.Cases.{same_char, left_or, by_case, then_is, else_is, apart, letter_name, base_name}
 

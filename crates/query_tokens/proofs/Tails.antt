@@ -1,7 +1,8 @@
 -- What is left of a token in each state of the machine: its characters, its kind, and its texts.
 use Rattle.std.proofs.Common.{◌≡◌, ℕ, suc, Bool, true, false, IsTrue, ◌==◌, if◌then◌else◌, List, [], ◌∷◌, length, Option, Some, None}
 use lib.Utf8.{scalar}
-use Rattle.rdf_term.specs.Classes.{is_digit, is_letter, is_one_of}
+use Rattle.rdf_term.specs.Escapes.{echar_meaning}
+use Rattle.rdf_term.specs.Classes.{is_digit, is_letter, is_one_of, is_hex_digit}
 use Rattle.query_tokens.specs.declared.token.Number.{Number as NumberKind}
 use Rattle.query_tokens.specs.declared.token.Number.TheVariants as number
 use Rattle.query_tokens.specs.declared.kind.Kind.{Kind}
@@ -10,8 +11,9 @@ use Rattle.query_tokens.specs.declared.kind.Quoted.{Quoted}
 use Rattle.query_tokens.specs.declared.kind.Quoted.TheVariants as quoted
 use Rattle.query_tokens.specs.declared.state.State.{State}
 use Rattle.query_tokens.specs.declared.state.State.TheVariants as state
-use Rattle.query_tokens.specs.Classes.{is_var_char, is_label_start, is_local_escape, is_hex_digit, is_alphanumeric, is_sign, is_short_escape, closing}
-use Rattle.query_tokens.specs.Lexemes.{In, chars, optional, Ends, ends, prefix, local_value, LocalEnds, Local, local_ends, local_ends_value, local, hex_number, Hex, Piece, pieces, short_meaning, meanings, TagPart, tag_parts, Exponent, exponent, Numeral, numeral, numeral_kind, whole_kind, Lexeme, Word, Name, Between, DoubleQuotes, SingleQuotes, Var, Label, Tag, Number, Mark, Carets, spelling}
+use Rattle.query_model.specs.WellFormed.{is_var_char, is_label_start}
+use Rattle.query_tokens.specs.Classes.{is_local_escape, is_alphanumeric, is_sign, is_short_escape, closing}
+use Rattle.query_tokens.specs.Lexemes.{In, chars, optional, Ends, ends, prefix, local_value, LocalEnds, Local, local_ends, local_ends_value, local, hex_number, Hex, Piece, pieces, meanings, TagPart, tag_parts, Exponent, exponent, Numeral, numeral, numeral_kind, whole_kind, Lexeme, Word, Name, Between, DoubleQuotes, SingleQuotes, Var, Label, Tag, Number, Mark, Carets, spelling}
 use Rattle.query_tokens.specs.Scanner.{quoted_kind, Texts, no_texts, emitted}
 
 pub data AfterLetters : Type 0 where
@@ -338,7 +340,7 @@ after_opened_texts form (AText ps) = one (meanings ps)
 after_opened_texts form AQuotes = no_texts
 
 abbrev pub after_escape_texts : (form : Quoted) → AfterEscape form → Texts
-after_escape_texts form (AShort e ps) = one (short_meaning e.char ∷ meanings ps)
+after_escape_texts form (AShort e ps) = one (echar_meaning e.char ∷ meanings ps)
 after_escape_texts form (AFour h ps) = one (hex_number 0 h.digits ∷ meanings ps)
 after_escape_texts form (AEight h ps) = one (hex_number 0 h.digits ∷ meanings ps)
 

@@ -2,14 +2,16 @@
 use Rattle.std.specs.Prelude.{◌≡◌, ℕ, ◌+◌, ◌*◌, Bool, IsTrue, List, [], ◌∷◌, length, Option, Some, None, codes, ◌==◌, if◌then◌else◌, encode_utf8_all}
 use Rattle.std.specs.Char.{digit_value}
 use lib.Utf8.{scalar}
+use Rattle.rdf_term.specs.Escapes.{echar_meaning}
 use Rattle.query_tokens.specs.declared.token.Token.{Token}
 use Rattle.query_tokens.specs.declared.token.Token.TheVariants as token
 use Rattle.query_tokens.specs.declared.token.Number.{Number as NumberKind}
 use Rattle.query_tokens.specs.declared.token.Number.TheVariants as number
 use Rattle.query_tokens.specs.declared.kind.Quoted.{Quoted}
 use Rattle.query_tokens.specs.declared.kind.Quoted.TheVariants as quoted
-use Rattle.rdf_term.specs.Classes.{is_digit, is_letter, is_one_of}
-use Rattle.query_tokens.specs.Classes.{is_base, is_var_char, is_name_char, is_dotted, is_label_start, is_local_start, is_local_char, is_local_dotted, is_local_escape, is_hex_digit, is_alphanumeric, is_exponent_mark, is_sign, is_mark, closing, is_raw, is_short_escape}
+use Rattle.rdf_term.specs.Classes.{is_digit, is_letter, is_one_of, is_hex_digit}
+use Rattle.query_model.specs.WellFormed.{is_var_char, is_name_char, is_dotted, is_label_start}
+use Rattle.query_tokens.specs.Classes.{is_base, is_local_start, is_local_char, is_local_dotted, is_local_escape, is_alphanumeric, is_exponent_mark, is_sign, is_mark, closing, is_raw, is_short_escape}
 use Rattle.query_tokens.specs.Words.{word_of}
 
 -- a character of a class
@@ -118,16 +120,10 @@ abbrev pub pieces : {form : Quoted} → List (Piece form) → List ℕ → List 
 pieces [] rest = rest
 pieces (p ∷ ps) rest = piece p (pieces ps rest)
 
--- what ECHAR means: tab, backspace, line feed, form feed, carriage return, or the mark itself
-abbrev pub short_meaning : ℕ → ℕ
-short_meaning e =
-    if e == 116 then 9 else if e == 98 then 8 else if e == 110 then 10
-    else if e == 102 then 12 else if e == 114 then 13 else e
-
 -- the character that is meant
 abbrev pub meaning : {form : Quoted} → Piece form → ℕ
 meaning (Raw c) = c.char
-meaning (Short e) = short_meaning e.char
+meaning (Short e) = echar_meaning e.char
 meaning (Four hex) = hex_number 0 hex.digits
 meaning (Eight hex) = hex_number 0 hex.digits
 

@@ -2,9 +2,10 @@
 use Rattle.std.specs.Prelude.{◌≡◌, ◌<◌, drop, ℕ, suc, ◌+◌, ◌-◌, ◌*◌, List, [], ◌∷◌, ◌++◌, Bool, true, false, ◌==◌, ◌&&◌, nat_le, not, if◌then◌else◌, Option, Some, None, encode_utf8_all}
 use Rattle.std.specs.Char.{digit_value}
 use lib.Utf8.{scalar}
-use Rattle.rdf_term.specs.Classes.{is_digit, is_letter}
-use Rattle.query_tokens.specs.Classes.{is_base, is_var_char, is_name_char, is_label_start, is_local_start, is_local_char, is_local_escape, is_hex_digit, is_alphanumeric, is_exponent_mark, is_sign, closing, is_raw, is_short_escape}
-use Rattle.query_tokens.specs.Lexemes.{short_meaning}
+use Rattle.rdf_term.specs.Classes.{is_digit, is_letter, is_hex_digit}
+use Rattle.query_model.specs.WellFormed.{is_var_char, is_name_char, is_label_start}
+use Rattle.query_tokens.specs.Classes.{is_base, is_local_start, is_local_char, is_local_escape, is_alphanumeric, is_exponent_mark, is_sign, closing, is_raw, is_short_escape}
+use Rattle.rdf_term.specs.Escapes.{echar_meaning}
 use Rattle.query_tokens.specs.Tokens.{is_blank, is_line_end}
 use Rattle.query_tokens.specs.Words.{word_of}
 use Rattle.query_tokens.specs.declared.token.Token.{Token}
@@ -297,7 +298,7 @@ hex_part n c = if adds_digit n c && scalar (n * 16 + digit_value c) then part.Fi
 
 -- what a character that leads from one state to another adds
 abbrev pub emit : State → State → ℕ → Part
-emit (state.Escape form) to c = escaped to (part.First (short_meaning c))
+emit (state.Escape form) to c = escaped to (part.First (echar_meaning c))
 emit (state.Hex form left n) to c = escaped to (hex_part n c)
 emit _ to c = entered to c
 

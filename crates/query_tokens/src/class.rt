@@ -1,37 +1,17 @@
+//! The classes of characters of the SPARQL 1.1 grammar (section 19.8), beside those that N-Triples has
+//! too.
 ghost use Rattle.std.specs.Prelude.{◌≡◌};
-ghost use Rattle.rdf_term.specs.Classes.{is_digit, is_letter};
-ghost use Rattle.query_tokens.specs.Classes.{is_base, is_name_start, is_var_char, is_name_char, is_label_start, is_local_start, is_local_char, is_local_escape, is_hex_digit, is_alphanumeric, is_exponent_mark, is_sign, closing, is_raw, is_short_escape};
+ghost use Rattle.query_model.specs.WellFormed.{is_name_start, is_var_char, is_name_char, is_label_start};
+ghost use Rattle.query_tokens.specs.Classes.{is_local_start, is_local_char, is_local_escape, is_alphanumeric, is_exponent_mark, is_sign, closing, is_raw, is_short_escape};
 
 use crate::kind::Quoted;
-
-pub fn is_letter(c: char) -> bool
-    ensures { result ≡ is_letter c }
-{
-    matches!(c, 'A'..='Z' | 'a'..='z')
-}
-
-pub fn is_digit(c: char) -> bool
-    ensures { result ≡ is_digit c }
-{
-    matches!(c, '0'..='9')
-}
-
-/// PN_CHARS_BASE.
-pub fn is_base(c: char) -> bool
-    ensures { result ≡ is_base c }
-{
-    matches!(c,
-        'A'..='Z' | 'a'..='z' | '\u{C0}'..='\u{D6}' | '\u{D8}'..='\u{F6}' | '\u{F8}'..='\u{2FF}'
-        | '\u{370}'..='\u{37D}' | '\u{37F}'..='\u{1FFF}' | '\u{200C}'..='\u{200D}'
-        | '\u{2070}'..='\u{218F}' | '\u{2C00}'..='\u{2FEF}' | '\u{3001}'..='\u{D7FF}'
-        | '\u{F900}'..='\u{FDCF}' | '\u{FDF0}'..='\u{FFFD}' | '\u{10000}'..='\u{EFFFF}')
-}
+use rdf_term::{is_digit, is_echar, is_iri_char, is_letter, is_pn_chars_base, is_string_char};
 
 /// PN_CHARS_U.
 fn is_name_start(c: char) -> bool
     ensures { result ≡ is_name_start c }
 {
-    is_base(c) || c == '_'
+    is_pn_chars_base(c) || c == '_'
 }
 
 /// What the name of a variable may go on with.
@@ -98,12 +78,6 @@ pub fn is_local_escape(c: char) -> bool
     )
 }
 
-pub fn is_hex_digit(c: char) -> bool
-    ensures { result ≡ is_hex_digit c }
-{
-    matches!(c, '0'..='9' | 'A'..='F' | 'a'..='f')
-}
-
 pub fn is_alphanumeric(c: char) -> bool
     ensures { result ≡ is_alphanumeric c }
 {
@@ -120,13 +94,6 @@ pub fn is_sign(c: char) -> bool
     ensures { result ≡ is_sign c }
 {
     matches!(c, '+' | '-')
-}
-
-/// What may stand raw between `<` and `>`.
-fn is_iri_char(c: char) -> bool
-    ensures { result ≡ is_raw Quoted.Iri c }
-{
-    c >= '\u{21}' && !matches!(c, '<' | '>' | '"' | '{' | '}' | '|' | '^' | '`' | '\\')
 }
 
 impl Quoted {
@@ -147,7 +114,7 @@ impl Quoted {
     {
         match self {
             Quoted::Iri => is_iri_char(c),
-            Quoted::Double => !matches!(c, '"' | '\\' | '\n' | '\r'),
+            Quoted::Double => is_string_char(c),
             Quoted::Single => !matches!(c, '\'' | '\\' | '\n' | '\r'),
         }
     }
@@ -158,9 +125,7 @@ impl Quoted {
     {
         match self {
             Quoted::Iri => false,
-            Quoted::Double | Quoted::Single => {
-                matches!(c, 't' | 'b' | 'n' | 'r' | 'f' | '"' | '\'' | '\\')
-            }
+            Quoted::Double | Quoted::Single => is_echar(c),
         }
     }
 }

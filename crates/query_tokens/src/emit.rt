@@ -1,8 +1,9 @@
 ghost use Rattle.std.specs.Prelude.{◌≡◌};
-ghost use Rattle.query_tokens.specs.Lexemes.{short_meaning};
+ghost use Rattle.rdf_term.specs.Escapes.{echar_meaning};
 ghost use Rattle.query_tokens.specs.Scanner.{entered, escaped, hex_part, emit};
 
 use crate::state::{State, hexed};
+use rdf_term::echar;
 
 /// What a character adds to the texts of its token.
 #[derive(Clone, Copy, Debug)]
@@ -14,17 +15,13 @@ pub enum Part {
     Nothing,
 }
 
-/// The character that ECHAR means.
-fn short_meaning(mark: char) -> char
-    ensures { result ≡ short_meaning mark }
+/// The character that ECHAR means behind its backslash; any other one means itself.
+fn meant(mark: char) -> char
+    ensures { result ≡ echar_meaning mark }
 {
-    match mark {
-        't' => '\t',
-        'b' => '\u{8}',
-        'n' => '\n',
-        'f' => '\u{c}',
-        'r' => '\r',
-        _ => mark,
+    match echar(mark) {
+        Some(character) => character,
+        None => mark,
     }
 }
 
@@ -73,7 +70,7 @@ pub fn emit(from: State, to: State, c: char) -> Part
     ensures { result ≡ emit from to c }
 {
     match from {
-        State::Escape(_) => escaped(to, Part::First(short_meaning(c))),
+        State::Escape(_) => escaped(to, Part::First(meant(c))),
         State::Hex(_, _, number) => escaped(to, hex_part(number, c)),
         _ => entered(to, c),
     }

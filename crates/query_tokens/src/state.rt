@@ -3,10 +3,11 @@ ghost use Rattle.query_tokens.specs.Scanner.{lookup, marks_begin, from_start, in
 
 use crate::Number;
 use crate::class::{
-    is_alphanumeric, is_base, is_digit, is_exponent_mark, is_hex_digit, is_label_start, is_letter,
-    is_local_char, is_local_escape, is_local_start, is_name_char, is_sign, is_var_char,
+    is_alphanumeric, is_exponent_mark, is_label_start, is_local_char, is_local_escape,
+    is_local_start, is_name_char, is_sign, is_var_char,
 };
 use crate::kind::{Kind, Quoted};
+use rdf_term::{is_digit, is_hex_digit, is_letter, is_pn_chars_base};
 
 /// What the characters of a token so far are.
 #[derive(Clone, Copy, Debug)]
@@ -93,7 +94,7 @@ fn from_start(c: char) -> Option<State>
 {
     if is_letter(c) {
         Some(State::Letters)
-    } else if is_base(c) {
+    } else if is_pn_chars_base(c) {
         Some(State::Prefix)
     } else if is_digit(c) {
         Some(State::Digits(Number::Digits))

@@ -1,5 +1,5 @@
 -- A request is one call, or it has one first refusal: what each check may answer is fixed.
-use Rattle.std.proofs.Common.{◌≡◌, ℕ, List, Option, Some, None, Result, Ok, Err, refl, sym, ap, ◌∙◌, subst, length, find, encode_utf8_all}
+use Rattle.std.proofs.Common.{◌≡◌, ℕ, List, Option, Some, None, Result, Ok, Err, refl, sym, ap, ◌∙◌, find, encode_utf8_all}
 use Rattle.std.proofs.lemmas.Option.{same_Some}
 use Rattle.std.proofs.lemmas.Str.{encodes_same}
 use Rattle.journal.specs.declared.txn.Txn.{Txn}
@@ -7,16 +7,7 @@ use Rattle.journal.specs.declared.op.Op.{Op}
 use Rattle.media.specs.declared.form.Form.{Form}
 use Rattle.nquads_line.specs.declared.kind.Kind.{Kind as DocumentKind}
 use Rattle.nquads.specs.Laws.{OneReading, OneFirstBadLine, NotBoth}
-use Rattle.query_tokens.specs.Laws.{OneTokenList}
-use Rattle.query_tokens.specs.declared.token.Placed.{Placed}
-use Rattle.query_model.specs.declared.query.Query.{Query}
-use Rattle.query_grammar.specs.declared.fault.Kind.{Kind}
-use Rattle.query_grammar.specs.declared.fault.QueryFault.{QueryFault}
-use Rattle.query_grammar.specs.Answers.{tokens_of, start_of, fault_at}
-use Rattle.query_grammar.specs.Queries.{FirstRefused}
-use Rattle.query_grammar.specs.QueryText.{OneQuery, IsQueryFault}
-use Rattle.query_grammar.proofs.OneFault.{refused_run}
-use Rattle.std.specs.Str.{chars}
+use Rattle.query_grammar.specs.QueryText.{OneFault, OneQuery}
 use Rattle.http_frame.specs.Messages.{SeenRequest}
 use Rattle.api_parts.specs.Laws.{OneSelection, OneContexts, OneFirstBad, BadOrSelection}
 use Rattle.api_parts.specs.Selections.{name_of}
@@ -51,7 +42,7 @@ pub record Facts : Type 0 where
   pub line : OneFirstBadLine
   pub not_both : NotBoth
   pub query : OneQuery
-  pub tokens : OneTokenList
+  pub fault : OneFault
 
 same_resource : (a b : Resource) → segments_of a ≡ segments_of b → a ≡ b
 same_resource a b e = same_Some a b (sym (resource_found a) ∙ ap resource_at e ∙ resource_found b)
@@ -104,27 +95,11 @@ once_content facts kind body (Ok a) (Err f) p q = absurd (facts.not_both kind bo
 once_content facts kind body (Err f) (Ok b) p q = absurd (facts.not_both kind body b p.0 q p.1)
 once_content facts kind body (Err f) (Err g) p q = ap Err (p.2 ∙ ap line_fault (facts.line kind body p.0 q.0 p.1 q.1) ∙ sym q.2)
 
--- the fault at the first refused token is fixed
-same_pair : (a b : ℕ × Kind) → ◌≡◌ {A = Result Query (ℕ × Kind)} (Err a) (Err b) → a ≡ b
-same_pair a b e = cc
-
-same_place : (m n : ℕ) (j k : Kind) (r : Result Query (ℕ × Kind)) → r ≡ Err (m, j) → r ≡ Err (n, k) → (m ≡ n) × (j ≡ k)
-same_place m n j k r e g =
-    let same = same_pair (m, j) (n, k) (sym e ∙ g) in
-    (ap (λ (x : ℕ × Kind). x.0) same, ap (λ (x : ℕ × Kind). x.1) same)
-
-one_fault : OneTokenList → (text : List ℕ) (e f : QueryFault) → IsQueryFault text e → IsQueryFault text f → e ≡ f
-one_fault one text e f x y =
-    let same : x.tokens ≡ y.tokens = one (length text) (chars text) x.tokens y.tokens x.are y.are in
-    let moved = subst (λ (ts : List Placed). FirstRefused (tokens_of ts) y.number y.kind) (sym same) y.refused in
-    let at = same_place x.number y.number x.kind y.kind _ (refused_run (tokens_of x.tokens) x.number x.kind x.refused) (refused_run (tokens_of x.tokens) y.number y.kind moved) in
-    x.fault ∙ (λ i. fault_at (at.1 i) (start_of (same i) (length text) (at.0 i))) ∙ sym y.fault
-
 once_query : Facts → (text : List ℕ) → Once (IsQueryOf text)
 once_query facts text (Ok a) (Ok b) p q = ap Ok (facts.query text a b p q)
 once_query facts text (Ok a) (Err f) p q = absurd (q.0 a p)
 once_query facts text (Err f) (Ok b) p q = absurd (p.0 b q)
-once_query facts text (Err f) (Err g) p q = ap Err (p.3 ∙ ap faults.Query (one_fault facts.tokens text p.1 q.1 p.2 q.2) ∙ sym q.3)
+once_query facts text (Err f) (Err g) p q = ap Err (p.3 ∙ ap faults.Query (facts.fault text p.1 q.1 p.2 q.2) ∙ sym q.3)
 
 once_among : (r : SeenRequest) (offers : List Form) (op : Op) → Once (GetsAmong r offers op)
 once_among r offers op = once_then _ _ (once_is _) (λ form. once_is _)

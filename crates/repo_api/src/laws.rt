@@ -6,8 +6,7 @@ use api_paths::one_transaction;
 use nquads::{documents_are_valid, is_refused_or_read, one_first_bad_line, one_reading};
 use nquads_line::terms_are_valid;
 use query_model::few_lookups;
-use query_text::{one_query, parsed_queries_are_well_formed};
-use query_tokens::one_token_list;
+use query_text::{one_fault, one_query, parsed_queries_are_well_formed};
 
 /// A request is one call, or it has one first refusal. So `read_call` answers each exactly where it is
 /// the request's, but for want of memory.
@@ -21,7 +20,7 @@ pub fn one_call()
     one_first_bad_line();
     is_refused_or_read();
     one_query();
-    one_token_list();
+    one_fault();
 }
 
 /// A call on a repository is on one of those that are there.

@@ -1,5 +1,5 @@
 -- What reading a text answers.
-use Rattle.std.specs.Prelude.{◌≡◌, ℕ, zero, suc, List, [], ◌∷◌, Bool, Some, Result}
+use Rattle.std.specs.Prelude.{◌≡◌, ◌<◌, ◌-◌, ◌^◌, ℕ, zero, suc, List, [], ◌∷◌, Bool, Some, Result}
 use Rattle.std.specs.declared.result.Result.TheVariants.{Ok, Err}
 use Rattle.std.specs.Str.{IsUtf8}
 use Rattle.rdf_term.specs.declared.term.Term.{Term}
@@ -47,6 +47,13 @@ IsTableFault text Memory = Unit {0}
 -- the text is a table
 abbrev pub IsTable : List ℕ → Table → Type 0
 IsTable text t = (v : Data) × IsJsonText text v × IsTableValue v t
+
+-- the number of a row is below 2 ^ 64 - 1, so that it and the number of the next one are numbers of 64 bits
+abbrev pub IsNumbered : ResultFault → Type 0
+IsNumbered NotJson = Unit {0}
+IsNumbered BadShape = Unit {0}
+IsNumbered (BadTerm n) = n < 2 ^ 64 - 1
+IsNumbered Memory = Unit {0}
 
 abbrev pub IsTableReading : List ℕ → Result Table ResultFault → Type 0
 IsTableReading text (Ok t) = IsTable text t

@@ -1,10 +1,10 @@
-ghost use Rattle.std.specs.Prelude.{◌≡◌, IfOk, MatchOption, IsTrue, map, encode_utf8_all};
+ghost use Rattle.std.specs.Prelude.{◌≡◌, IfErr, IfOk, MatchOption, IsTrue, map, encode_utf8_all};
 ghost use Rattle.std.specs.List.{list_all};
 ghost use Rattle.serde_json.specs.Find.{as_object, get};
 ghost use Rattle.serde_json.specs.View.{view, members_view};
 ghost use Rattle.results_json.specs.Tables.{are_cells, if_cells, is_row, IsCell, IsRowValue};
 ghost use Rattle.results_json.specs.Columns.{has_text};
-ghost use Rattle.results_json.specs.Reading.{HoldsNoTerm};
+ghost use Rattle.results_json.specs.Reading.{HoldsNoTerm, IsNumbered};
 ghost use Rattle.results_json.specs.Rows.{IsRowsReading};
 
 use crate::ResultFault;
@@ -77,7 +77,8 @@ fn row_of(alloc: Global, names: &[Text], value: &Value) -> Result<Option<Row>, M
 /// The rows of objects from these names.
 pub fn rows_of(alloc: Global, names: &[Text], values: &[Value]) -> Result<Rows, ResultFault>
     requires { IsTrue (list_all (is_row names.now) (map view values.now)) }
-    ensures { IsRowsReading names.now (map view values.now) result }
+    ensures reading { IsRowsReading names.now (map view values.now) result }
+    ensures numbered { IfErr result (λ fault. IsNumbered fault) }
 {
     let mut rows = Rows::new(alloc);
     for (number, value) in values.iter().enumerate() {

@@ -1,10 +1,10 @@
-ghost use Rattle.std.specs.Prelude.{◌≡◌, IfOk, option_map, option_and_then, Result};
+ghost use Rattle.std.specs.Prelude.{◌≡◌, IfErr, IfOk, option_map, option_and_then, Result};
 ghost use Rattle.query_model.specs.declared.table.Table.{Table as SpecTable};
 ghost use Rattle.serde_json.specs.Find.{as_array};
 ghost use Rattle.serde_json.specs.View.{view, items_view};
 ghost use Rattle.results_json.specs.declared.fault.ResultFault.{ResultFault as Fault};
 ghost use Rattle.results_json.specs.Tables.{table_text, get_within};
-ghost use Rattle.results_json.specs.Reading.{IsTableReading, HasAnswer};
+ghost use Rattle.results_json.specs.Reading.{IsNumbered, IsTableReading, HasAnswer};
 ghost use Rattle.results_json.specs.Rows.{IsValueReading};
 
 use crate::ResultFault;
@@ -45,7 +45,8 @@ fn list_within<'v>(value: &'v Value, outer: &str, inner: &str) -> Option<&'v Vec
 
 /// The table that a value is.
 fn table_in(alloc: Global, value: &Value) -> Result<Table, ResultFault>
-    ensures { IsValueReading (view value.now) result }
+    ensures reading { IsValueReading (view value.now) result }
+    ensures numbered { IfErr result (λ fault. IsNumbered fault) }
 {
     let Some(vars) = list_within(value, "head", "vars") else {
         return Err(ResultFault::BadShape);
@@ -64,7 +65,8 @@ fn table_in(alloc: Global, value: &Value) -> Result<Table, ResultFault>
 }
 
 fn table_of(alloc: Global, text: &[u8]) -> Result<Table, ResultFault>
-    ensures { IsTableReading text.now result }
+    ensures reading { IsTableReading text.now result }
+    ensures numbered { IfErr result (λ fault. IsNumbered fault) }
 {
     match json_value(alloc, text)? {
         None => Err(ResultFault::NotJson),
@@ -80,6 +82,7 @@ fn table_of(alloc: Global, text: &[u8]) -> Result<Table, ResultFault>
 pub fn read_rows(alloc: Global, text: &[u8]) -> Result<Table, ResultFault>
     ensures reading { IsTableReading text.now result }
     ensures exact { (other : Result SpecTable Fault) → IsTableReading text.now other → HasAnswer result → HasAnswer other → result ≡ other }
+    ensures numbered { IfErr result (λ fault. IsNumbered fault) }
 {
     one_table_reading();
     table_of(alloc, text)

@@ -13,5 +13,5 @@ returns c =
       line = c.one_first_bad_line.ensures;
       not_both = c.is_refused_or_read.ensures.not_both;
       query = c.one_query.ensures;
-      tokens = c.one_token_list.ensures;
+      fault = c.one_fault.ensures;
     })

@@ -7,8 +7,8 @@ use Rattle.results_json.proofs.NameLemmas.{view_more}
 use Rattle.results_json.proofs.RowLemmas.{rows_more, bad_at}
 use Rattle.results_json.proofs.rows.rows_of.Goals as goal
 
-pub returns-in-None : goal.returns-in-None
-returns-in-None c =
+pub returns-in-None-clause-reading : goal.returns-in-None-clause-reading
+returns-in-None-clause-reading c =
     let names = c.args.names.now in
     let d = view c.index-values-number.result in
     let bad : HoldsNoTerm d = subst (λ o. MatchOption o (HoldsNoTerm d) (λ row. IsRowValue names d row)) c.in-None.is c.in_ok-row_of.ensures in

@@ -1,7 +1,7 @@
 use Rattle.std.proofs.Common.{◌≡◌, ℕ, List, true, Some, Ok, Err, sym, ap, subst, ◌∙◌, map, codes}
 use Rattle.std.specs.List.{list_all}
 use Rattle.std.specs.Option.{MatchOption}
-use Rattle.std.specs.Prelude.{Result}
+use Rattle.std.specs.Prelude.{Result, IfErr}
 use Rattle.std.specs.Result.{IsErrAnd}
 use Rattle.rdf_term.specs.EachOnce.{EachOnce}
 use Rattle.query_model.specs.declared.table.Table.{Table}
@@ -10,14 +10,15 @@ use Rattle.serde_json.specs.View.{view, items_of}
 use Rattle.results_json.specs.declared.fault.ResultFault.{ResultFault}
 use Rattle.results_json.specs.declared.fault.ResultFault.TheVariants.{NotJson, BadShape, BadTerm, Memory}
 use Rattle.results_json.specs.Tables.{text_value, is_name, is_row, get_within, HasShape, AreRowValues}
+use Rattle.results_json.specs.Reading.{IsNumbered}
 use Rattle.results_json.specs.Columns.{has_text}
 use Rattle.results_json.specs.Rows.{IsRowsFault, IsValueFault, IsValueReading}
 use Rattle.results_json.proofs.ShapeLemmas.{list_at, no_names, no_rows}
 use Rattle.results_json.proofs.RowLemmas.{same_are_rows}
 use Rattle.results_json.proofs.table.table_in.Goals as goal
 
-pub returns-in_default-2 : goal.returns-in_default-2
-returns-in_default-2 c =
+pub returns-in_default-2-clause-reading : goal.returns-in_default-2-clause-reading
+returns-in_default-2-clause-reading c =
     let v = view c.args.value.now in
     let values = map view c.as_slice.result.now in
     let found : get_within (codes "head") (codes "vars") v ≡ Some (array (items_of values)) =
@@ -26,8 +27,8 @@ returns-in_default-2 c =
     (subst (λ o. MatchOption o ((names : List (List ℕ)) → values ≡ map text_value names → EachOnce names → ⊥) (λ x. (values ≡ map text_value x.0) × ((q : List ℕ) → has_text x.1 q ≡ is_name x.0 q)))
     c.in_default-2.is c.in_ok-vars.ensures)
 
-pub returns-then-not-are_rows : goal.returns-then-not-are_rows
-returns-then-not-are_rows c =
+pub returns-then-not-are_rows-clause-reading : goal.returns-then-not-are_rows-clause-reading
+returns-then-not-are_rows-clause-reading c =
     let v = view c.args.value.now in
     let values = map view c.as_slice.result.now in
     let rows = map view c.as_slice-2.result.now in
@@ -65,8 +66,8 @@ of_rows v names rows BadShape shape bad = absurd bad
 of_rows v names rows (BadTerm n) shape bad = (names, rows, shape, bad)
 of_rows v names rows Memory shape bad = tt
 
-pub returns-in_err-rows : goal.returns-in_err-rows
-returns-in_err-rows c =
+pub returns-in_err-rows-clause-reading : goal.returns-in_err-rows-clause-reading
+returns-in_err-rows-clause-reading c =
     let v = view c.args.value.now in
     let values = map view c.as_slice.result.now in
     let rows = map view c.as_slice-4.result.now in
@@ -86,10 +87,10 @@ returns-in_err-rows c =
     ∙ sym (same_are_rows (has_text c.in-Some-2.names) names (map view c.as_slice-2.result.now) named.1) ∙ sym c.are_rows.ensures ∙ c.if-not-are_rows.false in
     let shape : HasShape v names rows = ((found, once), (listed, known)) in
     passed_on v c.from_residual-in_err-rows.result c.in_err-rows.field-0.0 c.from_residual-in_err-rows.ensures.1
-    (of_rows v names rows c.in_err-rows.field-0.0 shape c.in_err-rows.ensures)
+    (of_rows v names rows c.in_err-rows.field-0.0 shape c.in_err-rows.ensures.reading)
 
-pub returns : goal.returns
-returns c =
+pub returns-clause-reading : goal.returns-clause-reading
+returns-clause-reading c =
     let v = view c.args.value.now in
     let values = map view c.as_slice.result.now in
     let rows = map view c.as_slice-4.result.now in
@@ -108,4 +109,11 @@ returns c =
     ap (list_all (is_row names)) (ap (map view) (c.as_slice-4.ensures.value ∙ sym c.as_slice-2.ensures.value))
     ∙ sym (same_are_rows (has_text c.in-Some-2.names) names (map view c.as_slice-2.result.now) named.1) ∙ sym c.are_rows.ensures ∙ c.if-not-are_rows.false in
     let shape : HasShape v names rows = ((found, once), (listed, known)) in
-    (rows, shape, subst (λ ns. AreRowValues ns rows c.in_ok-rows.rows) c.as_slice-3.ensures.value c.in_ok-rows.ensures)
+    (rows, shape, subst (λ ns. AreRowValues ns rows c.in_ok-rows.rows) c.as_slice-3.ensures.value c.in_ok-rows.ensures.reading)
+
+passed_on_number : (r : Result Table ResultFault) (e : ResultFault) → IsErrAnd r (λ f. f ≡ e) → IsNumbered e → IfErr r (λ f. IsNumbered f)
+passed_on_number (Ok t) e is h = tt
+passed_on_number (Err f) e is h = subst IsNumbered (sym is) h
+
+pub returns-in_err-rows-clause-numbered : goal.returns-in_err-rows-clause-numbered
+returns-in_err-rows-clause-numbered c = passed_on_number c.from_residual-in_err-rows.result c.in_err-rows.field-0.0 c.from_residual-in_err-rows.ensures.1 c.in_err-rows.ensures.numbered
