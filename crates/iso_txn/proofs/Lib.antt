@@ -7,6 +7,7 @@ pub mod StateLemmas
 pub mod Steps
 pub mod Views
 pub mod WatchCalls
+pub mod WatchCounts
 pub mod WatchEmpty
 pub mod WatchGrowth
 pub mod WatchLemmas

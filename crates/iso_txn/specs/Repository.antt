@@ -1,10 +1,12 @@
 -- What a repository and a pinned read are to their callers.
-use Rattle.std.specs.Prelude.{ℕ, ◌≤◌, ◌^◌, Bool, true, false, Option, Some, None, List, [], ◌∷◌, ◌++◌, length}
+use Rattle.std.specs.Prelude.{◌≡◌, ℕ, ◌≤◌, ◌^◌, Bool, true, false, Option, Some, None, List, [], ◌∷◌, ◌++◌, length}
 use Rattle.rdf_term.specs.Statement.{Statement}
 use Rattle.journal.specs.declared.entry.Entry.{Entry}
 use Rattle.journal.specs.declared.limits.Limits.{Limits}
 use Rattle.journal.specs.declared.reply.Reply.{Reply}
-use Rattle.journal.specs.Journal.{reply_next}
+use Rattle.journal.specs.Conflicts.{deltas_since}
+use Rattle.journal.specs.Journal.{is_live_after, judged, reply_next}
+use Rattle.iso_txn.specs.Watch.{reader_at}
 
 -- limits that a repository may have: each is at least 1 and at most the standard one
 pub record AreAllowed (limits : Limits) : Type 0 where
@@ -31,6 +33,15 @@ next_reply repo e = reply_next repo.limits repo.journal e
 -- the journal has as many entries as it may have
 abbrev pub IsFull : Repository → Type 0
 IsFull repo = repo.limits.places ≤ length repo.journal
+
+-- no SERIALIZABLE transaction is open
+abbrev pub NoneSerializable : Repository → Type 0
+NoneSerializable repo = (place : ℕ) → is_live_after repo.limits repo.journal (Some (reader_at place)) ≡ false
+
+-- since the Begin of each open SERIALIZABLE transaction the committed content wasn't changed
+abbrev pub IsUnchangedMeanwhile : Repository → Type 0
+IsUnchangedMeanwhile repo = (place : ℕ) → is_live_after repo.limits repo.journal (Some (reader_at place)) ≡ true
+    → deltas_since repo.limits (judged repo.limits repo.journal) (reader_at place) ≡ []
 
 -- a pinned read: the contents that it sees, whether its transaction was open at each of its entries, and the most rows that it may find
 pub record PinnedRead : Type 0 where

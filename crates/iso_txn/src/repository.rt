@@ -5,7 +5,7 @@ ghost use Rattle.journal.specs.declared.reply.Reply.TheVariants as replies;
 ghost use Rattle.journal.specs.Alone.{ReadsAsIfAlone};
 ghost use Rattle.journal.specs.Journal.{commits_in, committed_after, entry_of, is_live_after, view_after};
 ghost use Rattle.journal.specs.Legal.{IsInTurn};
-ghost use Rattle.iso_txn.specs.Repository.{AreAllowed, IsFull, next_reply, with_entry};
+ghost use Rattle.iso_txn.specs.Repository.{AreAllowed, IsFull, IsUnchangedMeanwhile, NoneSerializable, next_reply, with_entry};
 
 use crate::Pinned;
 use crate::state::State;
@@ -92,6 +92,16 @@ impl RepoState {
         ensures { result ≡ commits_in self.now.limits self.now.journal }
     {
         self.state.commits()
+    }
+
+    /// How many changes of the committed content are kept for the commits of open SERIALIZABLE
+    /// transactions. There is none where no such transaction is open, and there is one at least where
+    /// the content was changed since the Begin of one that is. It takes no memory.
+    pub fn kept_deltas(&self) -> usize
+        ensures none { NoneSerializable self.now → result ≡ 0 }
+        ensures some { result ≡ 0 → IsUnchangedMeanwhile self.now }
+    {
+        self.state.kept_deltas()
     }
 
     /// Whether the journal has as many entries as it may have.

@@ -86,6 +86,13 @@ impl State {
         self.commits
     }
 
+    /// How many changes are kept for the open SERIALIZABLE transactions.
+    pub(crate) fn kept_deltas(&self) -> usize
+        ensures { result ≡ length self.now.watch.changed }
+    {
+        self.watch.kept_deltas()
+    }
+
     /// Whether there is no transaction, or it is open.
     pub(crate) fn is_live(&self, txn: Option<Txn>) -> bool
         ensures { result ≡ lives txn self.now.open_txns }

@@ -1,4 +1,4 @@
-ghost use Rattle.std.specs.Prelude.{◌≡◌, ◌<◌, ◌-◌, ◌^◌, OnOk, OnErr};
+ghost use Rattle.std.specs.Prelude.{◌≡◌, ◌<◌, ◌-◌, ◌^◌, length, OnOk, OnErr};
 ghost use Rattle.std.specs.Option.{option_map};
 ghost use Rattle.change_set.specs.Content.{named_quads};
 ghost use Rattle.journal.specs.Found.{patterns_of};
@@ -57,6 +57,13 @@ impl Watch {
             readers: BTreeMap::new(alloc),
             log: CommitLog::new(alloc),
         }
+    }
+
+    /// How many changes are kept.
+    pub(crate) fn kept_deltas(&self) -> usize
+        ensures { result ≡ length self.now.changed }
+    {
+        self.log.len()
     }
 
     /// Watches a transaction that begins, where it is SERIALIZABLE.

@@ -82,3 +82,9 @@ fn random_histories_are_answered_by_the_definitions(rt: HostRuntime) -> Result<(
     }
     Ok(())
 }
+
+#[test]
+fn a_long_history_is_answered_by_the_definitions(rt: HostRuntime) -> Result<(), StoreFault> {
+    assert!(rt; is_right(rt.alloc(), 6, 2_000)?);
+    Ok(())
+}

@@ -1,5 +1,5 @@
 //! Thousands of SERIALIZABLE transactions, one after the other and side by side. Each is answered by what
-//! was committed since it began, however many were before.
+//! was committed since it began, however many were before. Once all are closed, no change is kept.
 use crate::acts::Act;
 use crate::asks::{OF_A, SIZE};
 use crate::quads::{Content, EMPTY, Edit, Looked, Part};
@@ -41,7 +41,7 @@ fn are_done(alloc: Global, repo: &mut RepoState, count: u64) -> Result<bool, Sto
             return Ok(false);
         }
     }
-    Ok(repo.quads() == 0 && repo.commits() == count)
+    Ok(repo.quads() == 0 && repo.commits() == count && repo.kept_deltas() == 0)
 }
 
 fn are_done_alone(alloc: Global, count: u64) -> Result<bool, StoreFault> {
@@ -105,7 +105,7 @@ fn next(
     }
 }
 
-/// How many transactions in a row are right, of so many.
+/// How many transactions in a row are right, of so many. The last one is rolled back.
 fn right(alloc: Global, repo: &mut RepoState, count: u64) -> Result<u64, StoreFault> {
     let mut txn = begun(alloc, repo)?;
     for number in 0..count {
@@ -114,16 +114,76 @@ fn right(alloc: Global, repo: &mut RepoState, count: u64) -> Result<u64, StoreFa
             None => return Ok(number),
         }
     }
+    let _ = entered(alloc, repo, 0, Act::Rollback(txn))?;
     Ok(count)
-}
-
-fn right_alone(alloc: Global, count: u64) -> Result<u64, StoreFault> {
-    let mut repo = repository(alloc, Limits::standard())?;
-    right(alloc, &mut repo, count)
 }
 
 #[test]
 fn ten_thousand_transactions_side_by_side(rt: HostRuntime) -> Result<(), StoreFault> {
-    assert!(rt; right_alone(rt.alloc(), 10_000)? == 10_000);
+    let alloc = rt.alloc();
+    let mut repo = repository(alloc, Limits::standard())?;
+    assert!(rt; right(alloc, &mut repo, 10_000)? == 10_000);
+    assert!(rt; repo.kept_deltas() == 0);
+    Ok(())
+}
+
+/// Begins a transaction, and changes the content outside.
+fn begun_before_a_change(
+    alloc: Global,
+    repo: &mut RepoState,
+    number: u64,
+) -> Result<Txn, StoreFault> {
+    let txn = begun(alloc, repo)?;
+    let _ = entered(alloc, repo, 1, Act::Write(None, edits(number)))?;
+    Ok(txn)
+}
+
+/// Begins so many transactions, each before a change outside.
+fn begun_before_changes(
+    alloc: Global,
+    repo: &mut RepoState,
+    count: u64,
+) -> Result<Vec<Txn>, StoreFault> {
+    let mut open = Vec::new(alloc);
+    for number in 0..count {
+        open.push(begun_before_a_change(alloc, repo, number)?)?;
+    }
+    Ok(open)
+}
+
+/// Commits a transaction, or rolls it back, in turn.
+fn ended(number: usize, txn: Txn) -> Act {
+    if number % 2 == 0 {
+        Act::Commit(txn)
+    } else {
+        Act::Rollback(txn)
+    }
+}
+
+/// Whether each of these transactions can be ended, and changes are kept until the last one is.
+fn are_ended(alloc: Global, repo: &mut RepoState, open: &[Txn]) -> Result<bool, StoreFault> {
+    for (number, txn) in open.iter().enumerate() {
+        let kept = repo.kept_deltas() > 0;
+        let answer = entered(alloc, repo, 0, ended(number, *txn))?;
+        if !kept || answer != Answer::Done {
+            return Ok(false);
+        }
+    }
+    Ok(repo.kept_deltas() == 0)
+}
+
+/// Whether so many transactions that are open at once keep changes, and none once they are closed.
+fn is_emptied(alloc: Global, repo: &mut RepoState, count: u64) -> Result<bool, StoreFault> {
+    let open = begun_before_changes(alloc, repo, count)?;
+    Ok(repo.kept_deltas() as u64 == count && are_ended(alloc, repo, open.as_slice())?)
+}
+
+#[test]
+fn ten_thousand_transactions_a_thousand_at_once(rt: HostRuntime) -> Result<(), StoreFault> {
+    let alloc = rt.alloc();
+    let mut repo = repository(alloc, Limits::standard())?;
+    for round in 0..10 {
+        assert!(rt; is_emptied(alloc, &mut repo, 1_000)?, "round {round}");
+    }
     Ok(())
 }

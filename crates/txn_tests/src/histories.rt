@@ -151,7 +151,8 @@ pub(crate) fn limits() -> Limits
 }
 
 fn is_same_size(repo: &RepoState, plain: &Plain) -> bool {
-    repo.length() == plain.length()
+    plain.is_kept_right()
+        && repo.length() == plain.length()
         && repo.quads() == plain.quads()
         && repo.commits() == plain.commits()
 }
@@ -200,5 +201,11 @@ fn random_histories_are_answered_by_the_definitions(rt: HostRuntime) -> Result<(
     for seed in 1..11 {
         assert!(rt; agree(alloc, seed, 200)?, "seed {seed}");
     }
+    Ok(())
+}
+
+#[test]
+fn a_long_history_is_answered_by_the_definitions(rt: HostRuntime) -> Result<(), StoreFault> {
+    assert!(rt; agree(rt.alloc(), 11, 2_000)?);
     Ok(())
 }

@@ -1,15 +1,16 @@
-//! A plain program that keeps the entries of a journal and answers each by the definitions: by looking at
-//! all entries again.
+//! A plain program that keeps the entries of a journal, with what is committed behind each, and answers a
+//! new one by the definitions: by looking at all entries again.
 use crate::acts::{Act, Answer, NO_PREFIXES, Naming, Prefixes};
 use crate::quads::{Content, EMPTY, bytes, is_matched, size, walked};
 use journal::{Level, Limits, Txn};
 use std::alloc::{AllocError, Global};
 
-/// An entry, and whether it was accepted.
+/// An entry, whether it was accepted, and what is committed behind it.
 #[derive(Clone, Copy)]
 struct Judged {
     act: Act,
     accepted: bool,
+    committed: Content,
 }
 
 /// The entries so far, with the limits.
@@ -33,13 +34,21 @@ fn is_end(entry: &Judged, txn: Txn) -> bool {
     }
 }
 
-fn is_open(past: &[Judged], txn: Txn) -> bool {
-    let place = txn.place as usize;
-    match past.get(place) {
-        Some(begin) => {
-            is_begin(begin, txn.level)
-                && !past.iter().skip(place + 1).any(|entry| is_end(entry, txn))
+fn is_ended(behind: &[Judged], txn: Txn) -> bool {
+    for entry in behind {
+        if is_end(entry, txn) {
+            return true;
         }
+    }
+    false
+}
+
+fn is_open(past: &[Judged], txn: Txn) -> bool {
+    let Some(from) = past.get(txn.place as usize..) else {
+        return false;
+    };
+    match from.split_first() {
+        Some((begin, behind)) => is_begin(begin, txn.level) && !is_ended(behind, txn),
         None => false,
     }
 }
@@ -100,6 +109,14 @@ fn with_effect(past: &[Judged], act: Act, content: Content) -> Content {
 
 /// What is committed.
 fn committed(past: &[Judged]) -> Content {
+    match past.last() {
+        Some(entry) => entry.committed,
+        None => EMPTY,
+    }
+}
+
+/// What is committed, from all entries again.
+fn committed_again(past: &[Judged]) -> Content {
     let mut content = EMPTY;
     for (place, entry) in past.iter().enumerate() {
         if entry.accepted {
@@ -148,8 +165,8 @@ fn view(past: &[Judged], txn: Option<Txn>) -> Content {
 /// Whether the quad of a number was committed or taken away since a place.
 fn is_changed_since(past: &[Judged], place: usize, number: usize) -> bool {
     let mut was = false;
-    for end in 0..past.len() {
-        let is = committed(&past[..end + 1]).get(number) == Some(&true);
+    for (end, entry) in past.iter().enumerate() {
+        let is = entry.committed.get(number) == Some(&true);
         if end > place && is != was {
             return true;
         }
@@ -298,7 +315,17 @@ impl Plain {
     pub(crate) fn enter(&mut self, act: Act) -> Result<Answer, AllocError> {
         let answer = self.answer(act);
         let accepted = !is_refusal(answer);
-        self.past.push(Judged { act, accepted })?;
+        let past = self.past.as_slice();
+        let committed = if accepted {
+            with_effect(past, act, committed(past))
+        } else {
+            committed(past)
+        };
+        self.past.push(Judged {
+            act,
+            accepted,
+            committed,
+        })?;
         Ok(answer)
     }
 
@@ -307,9 +334,14 @@ impl Plain {
         self.past.len() as u64
     }
 
-    /// How many quads are committed.
+    /// How many quads are committed, from all entries again.
     pub(crate) fn quads(&self) -> u64 {
-        size(&committed(self.past.as_slice()))
+        size(&committed_again(self.past.as_slice()))
+    }
+
+    /// Whether all entries again leave what was kept behind the last one.
+    pub(crate) fn is_kept_right(&self) -> bool {
+        committed_again(self.past.as_slice()) == committed(self.past.as_slice())
     }
 
     /// How many commits were accepted.
