@@ -1,6 +1,7 @@
 pub mod AnswerLemmas
 pub mod EnterLemmas
 pub mod HouseLemmas
+pub mod LawLemmas
 pub mod MarkLemmas
 pub mod SendLemmas
 pub mod ServeLemmas

@@ -12,8 +12,8 @@ use Rattle.session.specs.Turns.{ground, IsTurn, Turns, turn_marks, turn_text}
 use Rattle.session.specs.declared.report.SessionEnd.{SessionEnd}
 use Rattle.session.specs.declared.report.SessionEnd.TheVariants.{Done, Refused, ReadFault, WriteFault, Limit, Memory}
 use Rattle.session.specs.declared.report.Turn.{Turn}
-use Rattle.session.specs.declared.serve.Step.{Step}
-use Rattle.session.specs.declared.serve.Step.TheVariants.{Answered, Closed, Lost, Stopped}
+use Rattle.session.specs.declared.requests.Step.{Step}
+use Rattle.session.specs.declared.requests.Step.TheVariants.{Answered, Closed, Lost, Stopped}
 use Rattle.session.proofs.MarkLemmas.{moves_more, all_begin}
 use Rattle.session.proofs.SendLemmas.{puts_none, puts_more}
 use Rattle.session.proofs.StopLemmas.{part_behind}

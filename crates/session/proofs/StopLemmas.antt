@@ -17,8 +17,8 @@ use Rattle.session.specs.Turns.{Ground, IsTurn, sent}
 use Rattle.session.specs.declared.report.SessionEnd.{SessionEnd}
 use Rattle.session.specs.declared.report.SessionEnd.TheVariants.{Done, Refused, ReadFault, WriteFault, Limit, Memory}
 use Rattle.session.specs.declared.report.Turn.{Turn}
-use Rattle.session.specs.declared.serve.Step.{Step}
-use Rattle.session.specs.declared.serve.Step.TheVariants.{Answered, Closed, Lost, Stopped}
+use Rattle.session.specs.declared.requests.Step.{Step}
+use Rattle.session.specs.declared.requests.Step.TheVariants.{Answered, Closed, Lost, Stopped}
 
 pub part_behind : (before part whole : List ℕ) → IsPartOf part whole → IsPartOf (before ++ part) (before ++ whole)
 part_behind before part whole p = (p.0, ap (λ (z : List ℕ). before ++ z) p.1 ∙ sym (append_assoc before part p.0))

@@ -3,6 +3,7 @@ pub mod Causes
 pub mod Ends
 pub mod Entering
 pub mod Houses
+pub mod Laws
 pub mod Marks
 pub mod Refusals
 pub mod Sending

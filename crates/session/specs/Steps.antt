@@ -14,8 +14,8 @@ use Rattle.session.specs.Turns.{Ground, IsRight, IsTurn, turn_marks, turn_text, 
 use Rattle.session.specs.declared.report.SessionEnd.{SessionEnd}
 use Rattle.session.specs.declared.report.SessionEnd.TheVariants.{Done, Refused, ReadFault, WriteFault, Limit, Memory}
 use Rattle.session.specs.declared.report.Turn.{Turn}
-use Rattle.session.specs.declared.serve.Step.{Step}
-use Rattle.session.specs.declared.serve.Step.TheVariants.{Answered, Closed, Lost, Stopped}
+use Rattle.session.specs.declared.requests.Step.{Step}
+use Rattle.session.specs.declared.requests.Step.TheVariants.{Answered, Closed, Lost, Stopped}
 
 -- the buffer of short answers is empty and has its room
 pub record IsRoom (b : Buffer) : Type 0 where

@@ -20,7 +20,6 @@ ghost use Rattle.session.specs.Entering.{IsEntered};
 ghost use Rattle.session.specs.Turns.{Ground, IsRight, ground, number_of, repo_of, sent};
 
 use crate::enter::{Entered, enter};
-use crate::gate::{Gate, GateMark};
 use crate::report::Outcome;
 use crate::store::Store;
 use api_calls::{ApiFault, Call};
@@ -31,6 +30,7 @@ use api_replies::{
 use http_frame::{Head, Request, Response, write_response};
 use iso_txn::Pinned;
 use journal::{Ask, Mark, Op, Reply};
+use rdf_io::{Gate, GateMark};
 use rdf_term::{Bytes, Memory, Text};
 use repo_api::{calls_are_callable, calls_are_on_repositories, read_call};
 use repo_store::answer;

@@ -10,7 +10,7 @@ use std::marker::Model;
 
 /// The IDs of the repositories of a house, in the order of their numbers, and the limits of each.
 #[derive(Drop)]
-pub(crate) struct Catalog {
+pub struct Catalog {
     names: Seq<Text>,
     limits: Limits,
 }
@@ -44,7 +44,7 @@ fn copied(alloc: Global, names: &[Text]) -> Result<Seq<Text>, Memory>
 }
 
 impl Catalog {
-    pub(crate) fn new(alloc: Global, names: &[Text], limits: Limits) -> Result<Catalog, Memory>
+    pub fn new(alloc: Global, names: &[Text], limits: Limits) -> Result<Catalog, Memory>
         requires names { AreNames names.now }
         requires limits { AreAllowed limits }
         ensures names { IfOk result (λ it. it.names ≡ names.now) }
@@ -57,7 +57,7 @@ impl Catalog {
     }
 
     /// The IDs.
-    pub(crate) fn names(&self) -> &[Text]
+    pub fn names(&self) -> &[Text]
         ensures names { result.now ≡ self.now.names }
         ensures are { AreNames self.now.names }
         ensures limits { AreAllowed self.now.limits }

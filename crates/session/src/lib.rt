@@ -4,15 +4,19 @@
 mod answer;
 mod catalog;
 mod enter;
-mod gate;
+mod laws;
 mod local;
 mod refusal;
 mod report;
+mod requests;
 mod send;
-mod serve;
 mod store;
+mod visit;
 
-pub use gate::{Gate, GateMark, OpenGate};
+pub use catalog::Catalog;
+pub use laws::{sound_sessions_end_alike, whole_streams_end_done};
 pub use local::{LocalHouse, serve_local};
+pub use rdf_io::{Gate, GateMark, OpenGate};
 pub use report::{Outcome, SessionEnd, SessionReport, Turn};
 pub use store::Store;
+pub use visit::{Visit, serve};

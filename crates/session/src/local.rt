@@ -9,16 +9,15 @@ ghost use Rattle.session.specs.Turns.{ground};
 ghost use Rattle.session.specs.Houses.{AreNames, AreOf, house_journals, journals_of, new_repo};
 
 use crate::catalog::Catalog;
-use crate::gate::OpenGate;
 use crate::report::SessionReport;
-use crate::serve::{Visit, serve};
 use crate::store::Store;
+use crate::visit::{Visit, serve};
 use change_set::Changes;
 use iso_txn::Pinned;
 use journal::{Ask, Level, Limits, NamesOp, Reply, StoreFault, Txn};
 use quad_index::Orders;
 use query_model::Query;
-use rdf_io::{Sink, Source};
+use rdf_io::{OpenGate, Sink, Source};
 use rdf_term::{Memory, Text};
 use repo_store::{LocalRepo, first_step_is_next};
 use std::alloc::Global;

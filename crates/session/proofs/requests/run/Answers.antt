@@ -1,10 +1,10 @@
 use Rattle.std.proofs.Common.{List, refl, sym, ◌∙◌, subst, arith}
 use Rattle.journal.specs.declared.entry.Mark.{Mark}
 use Rattle.session.specs.Marks.{Moves}
-use Rattle.session.specs.declared.serve.Step.TheVariants.{Answered, Closed, Lost, Stopped}
+use Rattle.session.specs.declared.requests.Step.TheVariants.{Answered, Closed, Lost, Stopped}
 use Rattle.session.proofs.MarkLemmas.{moves_none}
 use Rattle.session.proofs.SessionLemmas.{Stepping, moves_step, so_far_none, so_far_more, session_stopped, session_closed, session_lost, session_limit}
-use Rattle.session.proofs.serve.run.Goals as goal
+use Rattle.session.proofs.requests.run.Goals as goal
 
 pub loop-turn-init : goal.loop-turn-init
 loop-turn-init g c = record {

@@ -3,7 +3,7 @@ use Rattle.http_frame.specs.Messages.{SeenRequest}
 use Rattle.http_frame.specs.declared.message.Head.{Head}
 use Rattle.session.specs.Turns.{ground, sent}
 use Rattle.session.proofs.ServeLemmas.{served_part, served_whole, written_there}
-use Rattle.session.proofs.serve.serve_request.Goals as goal
+use Rattle.session.proofs.requests.serve_request.Goals as goal
 
 pub returns-then-request-clause-served : goal.returns-then-request-clause-served
 returns-then-request-clause-served g c =

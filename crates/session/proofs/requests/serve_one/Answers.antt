@@ -1,7 +1,7 @@
 use Rattle.std.proofs.Common.{[], refl}
 use Rattle.session.proofs.SendLemmas.{puts_none}
 use Rattle.session.proofs.StopLemmas.{stop_at_head}
-use Rattle.session.proofs.serve.serve_one.Goals as goal
+use Rattle.session.proofs.requests.serve_one.Goals as goal
 
 pub returns-in-Ok-None-clause-step : goal.returns-in-Ok-None-clause-step
 returns-in-Ok-None-clause-step g c = λ b s.

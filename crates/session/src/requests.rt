@@ -20,25 +20,22 @@ ghost use Rattle.session.specs.Steps.{IsGoing, IsRefusing, IsRoom, IsServed, IsS
 ghost use Rattle.session.specs.Turns.{ground, sent};
 
 use crate::answer::{Written, answer_request, is_bodiless};
-use crate::gate::{Gate, GateMark};
 use crate::refusal::refusal_text;
-use crate::report::{SessionEnd, SessionReport, Turn};
+use crate::report::{SessionEnd, Turn};
 use crate::send::send;
 use crate::store::Store;
+use crate::visit::Visit;
 use api_replies::{Short, write_short};
 use http_frame::{
     FrameFault, Frames, Head, Request, continue_of, heads_and_bodies_are_frames, write_response,
 };
 use journal::{Mark, reply_reads_no_later_entry};
-use rdf_io::{Failed, Sink, Source};
+use rdf_io::{Failed, Gate, GateMark, Sink, Source};
 use rdf_term::{Bytes, Memory, Text};
 use std::alloc::Global;
 
 /// The most requests of a session.
 pub const MOST_REQUESTS: u32 = 100_000;
-
-/// The spare bytes that a session keeps for responses that take no memory.
-const ROOM: usize = 1_024;
 
 /// The most entries of a request.
 const MOST_ENTRIES: usize = 256;
@@ -54,15 +51,6 @@ pub(crate) enum Step {
     Lost,
     /// No turn was made, and the session ends.
     Stopped(SessionEnd),
-}
-
-/// What a worker had done when a session began.
-#[derive(Clone, Copy, Drop)]
-pub(crate) struct Visit {
-    /// The number of the worker.
-    pub worker: u32,
-    /// How many requests it had answered.
-    pub first: u64,
 }
 
 /// Writes `100 Continue` where the head asks for it.
@@ -335,7 +323,7 @@ fn serve_one<T: Store, S: Source, K: Sink, G: Gate>(
 }
 
 /// Serves the requests of a stream, in order.
-fn run<T: Store, S: Source, K: Sink, G: Gate>(
+pub(crate) fn run<T: Store, S: Source, K: Sink, G: Gate>(
     alloc: Global,
     store: &T,
     pass: &mut T::Pass,
@@ -373,62 +361,4 @@ fn run<T: Store, S: Source, K: Sink, G: Gate>(
         }
     }
     SessionEnd::Limit
-}
-
-/// Takes the buffers of a session: the room of short answers, and a reader of frames.
-fn open(alloc: Global, room: &mut Bytes) -> Result<Frames, Memory>
-    requires { room.old.items ≡ [] }
-    ensures frames { IfOk result (λ f. f ≡ record { held = []; fault = None }) }
-    ensures room { OnOk result (IsRoom room.new) }
-{
-    room.room(ROOM)?;
-    Frames::new(alloc)
-}
-
-/// Serves one connection over any store.
-pub(crate) fn serve<T: Store, S: Source, K: Sink, G: Gate>(
-    alloc: Global,
-    store: &T,
-    pass: &mut T::Pass,
-    source: &mut S,
-    sink: &mut K,
-    gate: &G,
-    visit: Visit,
-) -> SessionReport
-    requires { T.serves store.now pass.old }
-    ensures pass { T.serves store.now pass.new × (T.seats pass.new ≡ T.seats pass.old) }
-    ensures moves { Moves (T.seats pass.old) (T.journals pass.old) (T.journals pass.new) result.marks.items }
-    ensures session { (b : List ℕ) → S.left source.old ≡ Some b → (text : List ℕ) × Puts (K.taken sink.old) (K.taken sink.new) text
-        × IsSession (ground (T.names store.now) (T.limits store.now) (T.journals pass.new) (T.seats pass.old)) b (S.left source.new)
-        result.end result.turns.items result.marks.items text }
-    ensures source { Caused (source_broke result.end) (S.faults source.old) (S.faults source.new) }
-    ensures sink { Caused (sink_broke result.end) (K.faults sink.old) (K.faults sink.new) }
-    ensures sound { S.sound source.old → (source_broke result.end ≡ false) × S.sound source.new }
-{
-    let mut turns = Vec::new(alloc);
-    let mut marks = Vec::new(alloc);
-    let mut room = Bytes::new(alloc);
-    match open(alloc, &mut room) {
-        Err(_) => SessionReport {
-            end: SessionEnd::Memory,
-            turns,
-            marks,
-        },
-        Ok(mut frames) => {
-            let end = run(
-                alloc,
-                store,
-                pass,
-                &mut frames,
-                source,
-                sink,
-                gate,
-                visit,
-                &mut room,
-                &mut turns,
-                &mut marks,
-            );
-            SessionReport { end, turns, marks }
-        }
-    }
 }

@@ -4,7 +4,7 @@ use Rattle.session.specs.Refusals.{asked}
 use Rattle.session.specs.Turns.{ground}
 use Rattle.session.proofs.SendLemmas.{puts_more}
 use Rattle.session.proofs.StopLemmas.{step_served, stop_asked, stop_at_body}
-use Rattle.session.proofs.serve.serve_head.Goals as goal
+use Rattle.session.proofs.requests.serve_head.Goals as goal
 
 pub returns-in-Err-clause-step : goal.returns-in-Err-clause-step
 returns-in-Err-clause-step g c = λ b h.

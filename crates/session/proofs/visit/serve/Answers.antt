@@ -1,5 +1,5 @@
 use Rattle.session.proofs.SessionLemmas.{session_none}
-use Rattle.session.proofs.serve.serve.Goals as goal
+use Rattle.session.proofs.visit.serve.Goals as goal
 
 pub returns-in-Err-clause-session : goal.returns-in-Err-clause-session
 returns-in-Err-clause-session g c = λ b s.

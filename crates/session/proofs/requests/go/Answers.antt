@@ -1,7 +1,7 @@
 use Rattle.std.proofs.Common.{refl}
 use Rattle.api_replies.specs.Shorts.{short_response}
 use Rattle.session.specs.Refusals.{gone_text}
-use Rattle.session.proofs.serve.go.Goals as goal
+use Rattle.session.proofs.requests.go.Goals as goal
 
 pub returns-in-Ok-clause-text : goal.returns-in-Ok-clause-text
 unfolding gone_text short_response

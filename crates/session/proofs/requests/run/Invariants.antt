@@ -3,7 +3,7 @@ use Rattle.http_frame.specs.Streams.{IsStream}
 use Rattle.session.specs.Marks.{Moves}
 use Rattle.session.specs.Steps.{IsRoom}
 use Rattle.session.proofs.SessionLemmas.{SoFar}
-use Rattle.session.proofs.serve.run.Given as goal
+use Rattle.session.proofs.requests.run.Given as goal
 
 abbrev pub invariant-loop-turn : goal.invariant-loop-turn
 invariant-loop-turn g l = record {
