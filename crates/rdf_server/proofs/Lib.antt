@@ -1,6 +1,2 @@
-pub mod OutcomeLemmas
-pub mod RepositoryLemmas
-pub mod SendLemmas
-pub mod SessionLemmas
-pub mod TurnLemmas
+pub mod RunLemmas
 pub mod WordLemmas

@@ -1,8 +1,2 @@
-pub mod Answers
-pub mod Laws
-pub mod Repositories
-pub mod Requests
-pub mod Sending
-pub mod Sessions
-pub mod Turns
+pub mod Programs
 pub mod Words

@@ -1,46 +1,31 @@
--- The words of the program, as their bytes in UTF-8, and its statuses.
-use Rattle.std.specs.Prelude.{◌≡◌, ℕ, ◌≤◌, Bool, false, ◌&&◌, ◌||◌, ◌==◌, List, [], ◌∷◌, ◌++◌, IsTrue, map, length, nat_le, codes}
-use Rattle.std.specs.List.{list_all, list_any}
-use Rattle.std.specs.Str.{bytes_eq}
+-- The words of the program, each as the list of its characters.
+use Rattle.std.specs.Prelude.{◌≡◌, ℕ, ◌≤◌, List, [], ◌∷◌, map, length, codes, Contains, IsTrue}
 use Rattle.quad_index.specs.declared.letter.Letter.{Letter}
-use Rattle.quad_index.specs.Letters.{IsArrangement, letter_byte}
-use Rattle.std.specs.Char.{is_ascii_alphanumeric}
-use Rattle.rdf_server.specs.declared.session.End.{End}
-use Rattle.rdf_server.specs.declared.session.End.TheVariants.{Done, Refused, ReadFault, WriteFault, Limit, Memory}
+use Rattle.quad_index.specs.Letters.{IsArrangement, letter_byte, standard_orders}
+use Rattle.api_replies.specs.Ids.{is_id}
+use Rattle.session.specs.Houses.{AreNames}
 
--- a letter or a digit, `_` or `-`
-abbrev pub is_id_byte : ℕ → Bool
-is_id_byte b = is_ascii_alphanumeric b || b == 95 || b == 45
+-- The words are an option for each of these orders, `--order` and the order's four letters, and then these IDs. No order is named twice.
+abbrev pub AreOptions : (words : List (List ℕ)) → (orders : List (List Letter)) → (ids : List (List ℕ)) → Type 0
+AreOptions words [] ids = words ≡ ids
+AreOptions words (order ∷ orders) ids = (rest : List (List ℕ)) × (words ≡ codes "--order" ∷ (map letter_byte order ∷ rest)) × IsArrangement order
+    × (Contains orders order → ⊥) × AreOptions rest orders ids
 
--- a repository's name: a letter or a digit, and then up to 63 letters, digits, `_` or `-`
-abbrev pub is_id : List ℕ → Bool
-is_id [] = false
-is_id (b ∷ bs) = is_ascii_alphanumeric b && nat_le (length bs) 63 && list_all is_id_byte bs
+-- The words are `stdio`, up to six options that name these orders, and these IDs: 1 to 16, distinct, each a letter or a digit and then up to 63
+-- letters, digits, `_` or `-`.
+pub record IsStdio (words : List (List ℕ)) (orders : List (List Letter)) (ids : List (List ℕ)) : Type 0 where
+  pub behind : List (List ℕ)
+  pub words_are : words ≡ codes "stdio" ∷ behind
+  pub options : AreOptions behind orders ids
+  pub few : length orders ≤ 6
+  pub names : AreNames ids
 
--- the text of an order of quads: an arrangement of the letters s, p, o and c
-abbrev pub IsOrderText : List ℕ → Type 0
-IsOrderText text = (order : List Letter) × IsArrangement order × (text ≡ map letter_byte order)
+-- the orders that a repository keeps where options name these: spoc and posc where they name none
+abbrev pub kept_orders : List (List Letter) → List (List Letter)
+kept_orders [] = standard_orders
+kept_orders (order ∷ orders) = order ∷ orders
 
--- options: each is `--order` and an order that no later word repeats
-abbrev pub AreOptions : List (List ℕ) → Type 0
-AreOptions [] = Unit {0}
-AreOptions (key ∷ []) = ⊥
-AreOptions (key ∷ order ∷ rest) =
-    (key ≡ codes "--order") × IsOrderText order × (list_any (bytes_eq order) rest ≡ false) × AreOptions rest
-
--- the words are `stdio`, up to six options and the name of a repository
-pub record IsStdio (words : List (List ℕ)) (id : List ℕ) : Type 0 where
-  pub options : List (List ℕ)
-  pub words_are : words ≡ codes "stdio" ∷ (options ++ id ∷ [])
-  pub are_options : AreOptions options
-  pub few : length options ≤ 12
-  pub name : IsTrue (is_id id)
-
--- the status of each end
-abbrev pub status_of : End → ℕ
-status_of Done = 0
-status_of Refused = 1
-status_of ReadFault = 2
-status_of WriteFault = 3
-status_of Limit = 4
-status_of Memory = 6
+-- each of these is an ID that no later one repeats
+abbrev pub AreIds : List (List ℕ) → Type 0
+AreIds [] = Unit {0}
+AreIds (id ∷ ids) = IsTrue (is_id id) × (Contains ids id → ⊥) × AreIds ids

@@ -1,67 +1,101 @@
-ghost use Rattle.std.specs.Prelude.{◌≡◌, ◌≢◌, ℕ, List, [], ◌++◌, Some, IfOk, map, ◌↔◌, encode_utf8_all};
-ghost use Rattle.rdf_server.specs.Requests.{statements_target};
-ghost use Rattle.rdf_server.specs.Sessions.{IsSession, IsServed};
-ghost use Rattle.rdf_server.specs.Turns.{HasCauses};
-ghost use Rattle.rdf_server.specs.Words.{IsStdio, status_of};
-ghost use Rattle.rdf_server.specs.declared.session.End.{End};
-ghost use Rattle.rdf_server.specs.declared.session.End.TheVariants.{ReadFault, WriteFault};
+//! The program over any source and sink.
+ghost use Rattle.std.specs.Prelude.{◌≡◌, ◌≢◌, ◌≤◌, ◌<◌, ◌==◌, ◌⊎◌, ℕ, List, [], Some, false, ◌↔◌, IfOk, length};
+ghost use Rattle.quad_index.specs.declared.letter.Letter.{Letter};
+ghost use Rattle.rdf_io.specs.Causes.{Rose};
+ghost use Rattle.session.specs.Causes.{Caused, sink_broke, source_broke};
+ghost use Rattle.session.specs.Houses.{AreNames, house_journals};
+ghost use Rattle.session.specs.Laws.{AreRequests};
+ghost use Rattle.session.specs.declared.report.SessionEnd.{SessionEnd};
+ghost use Rattle.rdf_server.specs.Programs.{IsRun, standard_limits, status_of};
+ghost use Rattle.rdf_server.specs.Words.{AreOptions, IsStdio};
 
-use crate::repository::Repository;
-use crate::session::{End, serve};
 use crate::words::{orders_of, stdio_words};
-use http_frame::Frames;
+use journal::Limits;
 use rdf_io::{Sink, Source};
 use rdf_term::{Memory, Text};
+use session::{LocalHouse, SessionEnd, serve_local, whole_streams_end_done};
 use std::alloc::Global;
 
-fn status_of(end: End) -> u8
-    ensures { result ≡ status_of end }
+fn status_of(end: SessionEnd) -> u8
+    ensures status { result ≡ status_of end }
+    ensures words { result ≢ 5 }
+    ensures most { result ≤ 6 }
+    ensures source { (result == 2) ≡ source_broke end }
+    ensures sink { (result == 3) ≡ sink_broke end }
 {
     match end {
-        End::Done => 0,
-        End::Refused => 1,
-        End::ReadFault => 2,
-        End::WriteFault => 3,
-        End::Limit => 4,
-        End::Memory => 6,
+        SessionEnd::Done => 0,
+        SessionEnd::Refused => 1,
+        SessionEnd::ReadFault => 2,
+        SessionEnd::WriteFault => 3,
+        SessionEnd::Limit => 4,
+        SessionEnd::Memory => 6,
     }
 }
 
-/// An empty repository of this name, with the orders that options name.
-fn new_repository(alloc: Global, options: &[Text], id: &str) -> Result<Repository, Memory>
-    ensures { IfOk result (λ it. it ≡ record { target = statements_target id.now; quads = [] }) }
+/// A house of empty repositories of these IDs, with the orders that the options in front of them name.
+fn new_house(alloc: Global, options: &[Text], ids: &[Text]) -> Result<LocalHouse, Memory>
+    requires ids { AreNames ids.now }
+    requires options { (orders : List (List Letter)) × AreOptions options.now orders ids.now × (length orders ≤ 6) }
+    ensures names { IfOk result (λ house. house.names ≡ ids.now) }
+    ensures limits { IfOk result (λ house. house.limits ≡ standard_limits) }
+    ensures journals { IfOk result (λ house. (repo : ℕ) → house_journals house repo ≡ []) }
 {
     let orders = orders_of(alloc, options)?;
-    Repository::new(alloc, id, &orders)
+    LocalHouse::new(alloc, ids, &orders, Limits::standard())
 }
 
-/// A whole session on a new repository of this name.
+/// A session on repositories that had no entry.
+fn serve_new<S: Source, K: Sink>(
+    alloc: Global,
+    house: &mut LocalHouse,
+    source: &mut S,
+    sink: &mut K,
+) -> SessionEnd
+    requires limits { house.old.limits ≡ standard_limits }
+    requires journals { (repo : ℕ) → house_journals house.old repo ≡ [] }
+    ensures run { IsRun house.old.names (S.left source.old) (S.left source.new) (K.taken sink.old) (K.taken sink.new) result }
+    ensures source { Caused (source_broke result) (S.faults source.old) (S.faults source.new) }
+    ensures sink { Caused (sink_broke result) (K.faults sink.old) (K.faults sink.new) }
+    ensures sound { S.sound source.old → (source_broke result ≡ false) × S.sound source.new }
+{
+    serve_local(alloc, house, source, sink).end
+}
+
+/// Lets a house go. The steps of that are many, and here nothing else is shown beside them.
+fn let_go(house: LocalHouse) {
+    let _house = house;
+}
+
+/// A whole session on new repositories of these IDs.
 fn run_session<S: Source, K: Sink>(
     alloc: Global,
     options: &[Text],
-    id: &str,
+    ids: &[Text],
     source: &mut S,
     sink: &mut K,
-) -> End
-    ensures session { (b t : List ℕ) → S.left source.old ≡ Some b → K.taken sink.old ≡ Some t
-        → (written : List ℕ) × (K.taken sink.new ≡ Some (t ++ written)) × IsServed id.now b (S.left source.new) result written }
-    ensures causes { HasCauses (S.faults source.old) (S.faults source.new) (K.faults sink.old) (K.faults sink.new)
-        (result ≡ ReadFault) (result ≡ WriteFault) }
-    ensures sound { S.sound source.old → (result ≢ ReadFault) × S.sound source.new }
+) -> SessionEnd
+    requires ids { AreNames ids.now }
+    requires options { (orders : List (List Letter)) × AreOptions options.now orders ids.now × (length orders ≤ 6) }
+    ensures run { IsRun ids.now (S.left source.old) (S.left source.new) (K.taken sink.old) (K.taken sink.new) result }
+    ensures source { Caused (source_broke result) (S.faults source.old) (S.faults source.new) }
+    ensures sink { Caused (sink_broke result) (K.faults sink.old) (K.faults sink.new) }
+    ensures sound { S.sound source.old → (source_broke result ≡ false) × S.sound source.new }
 {
-    let mut repository = match new_repository(alloc, options, id) {
-        Ok(repository) => repository,
-        Err(_) => return End::Memory,
-    };
-    match Frames::new(alloc) {
-        Ok(mut frames) => serve(alloc, &mut repository, &mut frames, source, sink),
-        Err(_) => End::Memory,
+    match new_house(alloc, options, ids) {
+        Ok(mut house) => {
+            let end = serve_new(alloc, &mut house, source, sink);
+            let_go(house);
+            end
+        }
+        Err(_) => SessionEnd::Memory,
     }
 }
 
-/// The program `stdio OPTIONS ID` over any source and sink: it reads HTTP requests, answers them in
-/// order on the repository ID, which is empty at first, and answers its status. An option `--order O`,
-/// up to six times, names an order in which the repository keeps its quads.
+/// The program `stdio OPTIONS ID..` over any source and sink: it reads HTTP requests, answers them in
+/// order on the repositories of these IDs, 1 to 16, which are empty at first, and answers its status.
+/// An option `--order O`, up to six times with distinct orders, names an order in which each repository
+/// keeps its quads; without one they are `spoc` and `posc`.
 ///
 /// | Status | Cause |
 /// |---|---|
@@ -78,28 +112,32 @@ pub fn run_stdio<S: Source, K: Sink>(
     sink: &mut K,
 ) -> u8
     // 5 comes exactly where the words are none of this program, and then nothing is read or written.
-    ensures words { result ≡ 5 ↔ ((id : List ℕ) → IsStdio (map encode_utf8_all words.now) id → ⊥) }
+    ensures words { result ≡ 5 ↔ ((orders : List (List Letter)) (ids : List (List ℕ)) → IsStdio words.now orders ids → ⊥) }
     ensures unread { result ≡ 5 → S.left source.new ≡ S.left source.old }
     ensures unwritten { result ≡ 5 → K.taken sink.new ≡ K.taken sink.old }
+    ensures most { result ≤ 6 }
 
-    // Else what is written is the text of the session over the bytes that the source tells, however it
-    // cuts them, and the status says how the session ended. Where the source failed, the bytes that it
-    // has left say whether `100 Continue` went out before.
-    ensures session { (id b t : List ℕ) → IsStdio (map encode_utf8_all words.now) id
-        → S.left source.old ≡ Some b → K.taken sink.old ≡ Some t
-        → (end : End) × (result ≡ status_of end)
-        × (written : List ℕ) × (K.taken sink.new ≡ Some (t ++ written)) × IsServed id b (S.left source.new) end written }
+    // Else it is one session on the repositories of the words' IDs, whose journals had no entry. Where the
+    // source tells its bytes, what is written is the text of the session over them, however it cuts them,
+    // and the status says how the session ended.
+    ensures run { (orders : List (List Letter)) (ids : List (List ℕ)) → IsStdio words.now orders ids
+        → (end : SessionEnd) × (result ≡ status_of end)
+        × IsRun ids (S.left source.old) (S.left source.new) (K.taken sink.old) (K.taken sink.new) end }
+
+    // Fewer than 100,000 requests, of which none but perhaps the last closes, are all served, unless a
+    // fault or want of memory ends the session.
+    ensures whole { (b : List ℕ) (n : ℕ) → S.left source.old ≡ Some b → AreRequests n b → n < 100000
+        → (Rose (S.faults source.old) (S.faults source.new) → ⊥) → (Rose (K.faults sink.old) (K.faults sink.new) → ⊥)
+        → (result ≡ 0) ⊎ ((result ≡ 5) ⊎ (result ≡ 6)) }
 
     // A fault is answered only where its object failed, no fault is passed over, and a sound source has none.
-    ensures causes { HasCauses (S.faults source.old) (S.faults source.new) (K.faults sink.old) (K.faults sink.new)
-        (result ≡ 2) (result ≡ 3) }
+    ensures source { Caused (result == 2) (S.faults source.old) (S.faults source.new) }
+    ensures sink { Caused (result == 3) (K.faults sink.old) (K.faults sink.new) }
     ensures sound { S.sound source.old → (result ≢ 2) × S.sound source.new }
 {
+    whole_streams_end_done();
     match stdio_words(words) {
         None => 5,
-        Some((options, id)) => {
-            let end = run_session(alloc, options, id, source, sink);
-            status_of(end)
-        }
+        Some((options, ids)) => status_of(run_session(alloc, options, ids, source, sink)),
     }
 }

@@ -1,115 +1,200 @@
 //! The words of the program.
-ghost use Rattle.std.specs.Prelude.{◌≡◌, ◌≤◌, ◌↔◌, length, map, encode_utf8_all, IsTrue, IfOk, IfSome, IfNone, OnOk};
-ghost use Rattle.std.specs.List.{list_all, list_any};
-ghost use Rattle.std.specs.Str.{bytes_eq};
-ghost use Rattle.rdf_server.specs.Words.{is_id_byte, is_id, IsOrderText, AreOptions, IsStdio};
+ghost use Rattle.std.specs.Prelude.{◌≡◌, ◌≤◌, ◌<◌, ◌↔◌, ◌∷◌, ℕ, List, Contains, codes, length, map, nat_le, IsTrue, IfOk, IfSome, IfNone};
+ghost use Rattle.std.specs.List.{list_all};
+ghost use Rattle.std.specs.Str.{chars};
+ghost use Rattle.quad_index.specs.Letters.{IsArrangement, letter_byte};
+ghost use Rattle.api_replies.specs.Ids.{is_id, is_id_char};
+ghost use Rattle.session.specs.Houses.{AreNames};
+ghost use Rattle.rdf_server.specs.Words.{AreIds, AreOptions, IsStdio, kept_orders};
 
 use quad_index::{Order, Orders};
 use rdf_term::{Memory, Text};
 use std::alloc::Global;
 
-fn all_id_bytes(id: &[u8]) -> bool
-    ensures { result ≡ list_all is_id_byte id.now }
+/// The most options.
+const MOST_OPTIONS: usize = 6;
+
+fn is_id_char(character: char) -> bool
+    ensures { result ≡ is_id_char character }
 {
-    id.iter().all(|byte| byte.is_ascii_alphanumeric() || *byte == b'_' || *byte == b'-')
+    (character.is_ascii_alphanumeric() || character == '_') || character == '-'
 }
 
-fn is_id(id: &[u8]) -> bool
-    ensures { result ≡ is_id id.now }
+fn are_id_chars(text: &str) -> bool
+    ensures { result ≡ list_all is_id_char (chars text.now) }
 {
-    match id {
-        [] => false,
-        [first, rest @ ..] => first.is_ascii_alphanumeric()
-            && rest.len() <= 63
-            && all_id_bytes(rest),
+    text.chars().all(|character| is_id_char(character))
+}
+
+/// Whether a text has at most 64 characters.
+fn is_short(text: &str) -> bool
+    ensures { result ≡ nat_le (length (chars text.now)) 64 }
+{
+    text.chars().count() <= 64
+}
+
+fn is_id_text(text: &str) -> bool
+    ensures { result ≡ is_id (chars text.now) }
+{
+    match text.chars().next() {
+        None => false,
+        Some(first) => first.is_ascii_alphanumeric() & is_short(text) & are_id_chars(text),
     }
 }
 
-/// Whether a word is an order of quads, an arrangement of the letters `s`, `p`, `o` and `c`.
-fn is_order(word: &Text) -> bool
-    ensures { IsTrue result ↔ IsOrderText (encode_utf8_all word.now) }
+/// Whether a word is the ID of a repository.
+fn is_id(word: &Text) -> bool
+    ensures { result ≡ is_id word.now }
 {
-    Order::from_letters(word.as_str()).is_some()
+    is_id_text(word.as_str())
 }
 
-/// Whether a word is among these.
-fn is_among(words: &[Text], word: &Text) -> bool
-    ensures { result ≡ list_any (bytes_eq (encode_utf8_all word.now)) (map encode_utf8_all words.now) }
+/// Whether each word is an ID that no later one repeats.
+fn are_ids(words: &[Text]) -> bool
+    ensures { IsTrue result ↔ AreIds words.now }
 {
-    match words {
-        [] => false,
-        [first, rest @ ..] => {
-            word.as_str().as_bytes() == first.as_str().as_bytes() || is_among(rest, word)
+    let mut left = words;
+    while let Some((word, behind)) = left.split_first() {
+        if !is_id(word) {
+            return false;
         }
-    }
-}
-
-/// Whether words are options: each is `--order` and an order that no later word repeats.
-fn are_options(words: &[Text]) -> bool
-    ensures { IsTrue result ↔ AreOptions (map encode_utf8_all words.now) }
-{
-    match words {
-        [] => true,
-        [_] => false,
-        [key, order, rest @ ..] => {
-            if key.as_str() != "--order" {
-                return false;
-            }
-            if !is_order(order) {
-                return false;
-            }
-            if is_among(rest, order) {
-                return false;
-            }
-            are_options(rest)
+        if behind.contains(word) {
+            return false;
         }
+        left = behind;
     }
+    true
 }
 
-/// The options and the name of the repository in the words `stdio OPTIONS ID`, where they are such
-/// words. It takes no memory.
-pub fn stdio_words(words: &[Text]) -> Option<(&[Text], &str)>
-    ensures some { IfSome result (λ it. IsStdio (map encode_utf8_all words.now) it.1.now) }
-    ensures none { IfNone result ((id : _) → IsStdio (map encode_utf8_all words.now) id → ⊥) }
+/// Whether words are 1 to 16 distinct IDs.
+fn are_names(words: &[Text]) -> bool
+    ensures { IsTrue result ↔ AreNames words.now }
 {
-    let [command, options @ .., id] = words else {
+    if words.is_empty() {
+        return false;
+    }
+    words.len() <= 16 && are_ids(words)
+}
+
+fn is_command(word: &Text) -> bool
+    ensures { IsTrue result ↔ (word.now ≡ codes "stdio") }
+{
+    word.as_str() == "stdio"
+}
+
+fn is_option_key(word: &Text) -> bool
+    ensures { IsTrue result ↔ (word.now ≡ codes "--order") }
+{
+    word.as_str() == "--order"
+}
+
+/// The order that a word is, an arrangement of the letters `s`, `p`, `o` and `c`.
+fn order_of(word: &Text) -> Option<Order>
+    ensures some { IfSome result (λ order. IsArrangement order × (word.now ≡ map letter_byte order)) }
+    ensures none { IfNone result ((order : _) → IsArrangement order → word.now ≡ map letter_byte order → ⊥) }
+{
+    Order::from_letters(word.as_str())
+}
+
+/// The order that the option at the front of words names.
+fn front_order(words: &[Text]) -> Option<Order>
+    ensures long { IfSome result (λ order. 2 ≤ length words.now) }
+    ensures some { IfSome result (λ order. IsArrangement order × ((rest : List (List ℕ)) × (words.now ≡ codes "--order" ∷ (map letter_byte order ∷ rest)))) }
+    ensures none { IfNone result ((order : _) (rest : List (List ℕ)) → IsArrangement order → words.now ≡ codes "--order" ∷ (map letter_byte order ∷ rest) → ⊥) }
+{
+    let Some((key, others)) = words.split_first() else {
         return None;
     };
-    if command.as_str() != "stdio" || options.len() > 12 || !is_id(id.as_str().as_bytes()) {
+    let Some((word, _)) = others.split_first() else {
+        return None;
+    };
+    if !is_option_key(key) {
         return None;
     }
-    if are_options(options) {
-        Some((options, id.as_str()))
-    } else {
-        None
+    order_of(word)
+}
+
+/// The words behind the first two.
+fn past_option(words: &[Text]) -> &[Text]
+    ensures value { (key word : List ℕ) (rest : List (List ℕ)) → words.now ≡ key ∷ (word ∷ rest) → result.now ≡ rest }
+    ensures shorter { 2 ≤ length words.now → length result.now < length words.now }
+{
+    let Some((_, others)) = words.split_first() else {
+        return words;
+    };
+    let Some((_, behind)) = others.split_first() else {
+        return others;
+    };
+    behind
+}
+
+/// Whether an option at the front of words names this order.
+fn is_named(words: &[Text], order: Order) -> bool
+    ensures { (orders ids : _) → AreOptions words.now orders ids → AreNames ids → IsTrue result ↔ Contains orders order }
+{
+    match front_order(words) {
+        None => false,
+        Some(other) => other == order || is_named(past_option(words), order),
     }
 }
 
-/// The orders that options name, in their order; the standard ones where there is no option.
-pub fn orders_of(alloc: Global, options: &[Text]) -> Result<Orders, Memory>
-    ensures some { IfOk result (λ orders. 1 ≤ length orders) }
-    ensures few { IfOk result (λ orders. length orders ≤ 6) }
+/// The words behind up to so many options, where those are distinct orders and these are IDs. It
+/// takes no memory.
+fn ids_of(words: &[Text], most: usize) -> Option<&[Text]>
+    ensures some { IfSome result (λ ids. AreNames ids.now × ((orders : _) × AreOptions words.now orders ids.now × (length orders ≤ most))) }
+    ensures none { IfNone result ((orders ids : _) → AreOptions words.now orders ids → length orders ≤ most → AreNames ids → ⊥) }
+{
+    match front_order(words) {
+        None => { if are_names(words) { Some(words) } else { None } }
+        Some(order) => {
+            let behind = past_option(words);
+            if most == 0 || is_named(behind, order) {
+                return None;
+            }
+            ids_of(behind, most - 1)
+        }
+    }
+}
+
+/// The words behind `stdio`, and the IDs among them, where the words are some of this program. It
+/// takes no memory.
+pub fn stdio_words(words: &[Text]) -> Option<(&[Text], &[Text])>
+    ensures some { IfSome result (λ it. AreNames it.1.now × ((orders : _) × AreOptions it.0.now orders it.1.now × (length orders ≤ 6))
+        × (words.now ≡ codes "stdio" ∷ it.0.now)) }
+    ensures none { IfNone result ((orders ids : _) → IsStdio words.now orders ids → ⊥) }
+{
+    let Some((command, behind)) = words.split_first() else {
+        return None;
+    };
+    if !is_command(command) {
+        return None;
+    }
+    match ids_of(behind, MOST_OPTIONS) {
+        None => None,
+        Some(ids) => Some((behind, ids)),
+    }
+}
+
+/// The orders that the options at the front of words name, in their order.
+fn named_orders(alloc: Global, words: &[Text]) -> Result<Orders, Memory>
+    ensures { IfOk result (λ it. (orders ids : _) → AreOptions words.now orders ids → AreNames ids → it ≡ orders) }
 {
     let mut orders = Orders::new(alloc);
-    for word in options {
-        add_order(&mut orders, word)?;
-    }
-    if orders.len() == 0 {
-        return Order::standard(alloc);
+    let mut left = words;
+    while let Some(order) = front_order(left) {
+        order.add_to(&mut orders)?;
+        left = past_option(left);
     }
     Ok(orders)
 }
 
-/// Adds the order that a word names, where it names one and an index has room for it.
-fn add_order(orders: &mut Orders, word: &Text) -> Result<(), Memory>
-    requires { length orders.old ≤ 6 }
-    ensures { OnOk result (length orders.new ≤ 6) }
+/// The orders that options name; the standard ones where there is no option.
+pub fn orders_of(alloc: Global, words: &[Text]) -> Result<Orders, Memory>
+    ensures { IfOk result (λ it. (orders ids : _) → AreOptions words.now orders ids → AreNames ids → it ≡ kept_orders orders) }
 {
-    if orders.len() == 6 {
-        return Ok(());
+    let orders = named_orders(alloc, words)?;
+    if orders.len() == 0 {
+        return Order::standard(alloc);
     }
-    if let Some(order) = Order::from_letters(word.as_str()) {
-        order.add_to(orders)?;
-    }
-    Ok(())
+    Ok(orders)
 }

@@ -1,20 +1,15 @@
-//! Tests of the server through its public calls: whole sessions in memory, byte for byte, and the parts
-//! that they are made of.
+//! Tests of the server through its top call: whole sessions in memory, byte for byte.
 #![tactic(auto)]
 
 #[cfg(test)]
 mod exchange;
 #[cfg(test)]
-mod frames;
-#[cfg(test)]
-mod media_types;
-#[cfg(test)]
-mod parameters;
-#[cfg(test)]
 mod sessions;
 #[cfg(test)]
 mod statements;
 #[cfg(test)]
-mod streams;
+mod transactions;
+#[cfg(test)]
+mod words;
 #[cfg(test)]
 mod worked;

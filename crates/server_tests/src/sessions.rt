@@ -1,99 +1,75 @@
-//! Sessions: their ends, their limits, and the words of the program.
+//! Sessions: their ends, their limits, and what failing sources and sinks leave.
 use crate::exchange::{
-    ADD, CALM, EMPTY_LIST, LINE, LIST, NO_CONTENT, Outside, listing, post, refused, run, write,
+    ADD, CALM, LINE, LIST, NO_CONTENT, OK, Outside, QUADS, SIZE, TEXT, answer, is_run, is_session,
+    last_answer, request, run, texts_of,
 };
-use rdf_server::{sessions_are_determined, sessions_join};
 use rdf_term::Memory;
 use std::alloc::Global;
 
 #[test]
-fn posted_lines_are_listed_however_the_bytes_are_cut(rt: HostRuntime) -> Result<(), Memory> {
+fn each_repository_has_its_own_statements(rt: HostRuntime) -> Result<(), Memory> {
+    let exchanges = [
+        ADD,
+        (
+            "POST s/transactions",
+            "",
+            "",
+            "201 Created",
+            "Location: /rdf4j-server/repositories/s/transactions/0-3\r\n",
+            "",
+        ),
+        ADD,
+        SIZE,
+        ("GET s/size", "", "", OK, TEXT, "0"),
+        ("PUT s/transactions/0-3?action=SIZE", "", "", OK, TEXT, "0"),
+        (
+            "PUT r/transactions/0-3?action=SIZE",
+            "",
+            "",
+            "404 Not Found",
+            TEXT,
+            "no such transaction",
+        ),
+        ("GET t/size", "", "", OK, TEXT, "0"),
+        (
+            "GET u/size",
+            "",
+            "",
+            "404 Not Found",
+            TEXT,
+            "no such repository",
+        ),
+    ];
+    assert!(rt; is_session(rt.alloc(), &["stdio", "r", "s", "t"], &exchanges)?);
+    Ok(())
+}
+
+#[test]
+fn answers_are_the_same_however_the_bytes_are_cut(rt: HostRuntime) -> Result<(), Memory> {
     let alloc = rt.alloc();
-    sessions_are_determined();
-    sessions_join();
-    let first = post(alloc, LINE)?;
-    let second = post(
-        alloc,
-        "<http://e/a> <http://e/p> <http://e/o> .\r\n\n<http://e/s> <http://e/p> <http://e/o> .",
-    )?;
-    let input = format!(in alloc; "{first}{LIST}{second}{LIST}")?;
+    let texts = texts_of(alloc, &[ADD, LIST, ADD, SIZE])?;
+    for cut in 1..texts.input.len() {
+        let outside = Outside { cut, ..CALM };
+        let ran = run(alloc, &["stdio", "r"], texts.input.as_str(), outside)?;
+        assert_eq!(rt; ran.status, 0);
+        assert!(rt; ran.taken.as_str() == texts.want.as_str(), "cut {cut}");
+    }
+    Ok(())
+}
+
+#[test]
+fn requests_behind_one_that_closes_are_not_read(rt: HostRuntime) -> Result<(), Memory> {
+    let alloc = rt.alloc();
+    let last = request(alloc, "GET r/size", "Connection: close\r\n", "")?;
+    let input = format!(in alloc; "{last}{last}\u{1}")?;
+    let closing = format!(in alloc; "{TEXT}Content-Length: 1\r\nConnection: close\r\n\r\n0")?;
+    let want = format!(in alloc; "HTTP/1.1 200 OK\r\n{closing}")?;
+    assert!(rt; is_run(alloc, &["stdio", "r"], input.as_str(), 0, want.as_str())?);
+    let input = "HEAD /rdf4j-server/repositories/r/size HTTP/1.0\r\n\r\nx";
     let want = format!(in alloc;
-        "{NO_CONTENT}HTTP/1.1 200 OK\r\nContent-Type: application/n-quads\r\nContent-Length: 41\r\n\r\n{LINE}{NO_CONTENT}HTTP/1.1 200 OK\r\nContent-Type: application/n-quads\r\nContent-Length: 82\r\n\r\n<http://e/a> <http://e/p> <http://e/o> .\n{LINE}"
+        "HTTP/1.1 405 Method Not Allowed\r\n{TEXT}Allow: GET\r\nConnection: close\r\n\r\n"
     )?;
-    for cut in [0, 1, 2, 7] {
-        let ran = run(
-            alloc,
-            &["stdio", "r"],
-            input.as_str(),
-            Outside { cut, ..CALM },
-        )?;
-        assert_eq!(rt; ran.status, 0);
-        assert!(rt; ran.taken.as_str() == want.as_str(), "cut {cut}");
-    }
-    let empty = run(alloc, &["stdio", "r"], "", CALM)?;
-    assert_eq!(rt; empty.status, 0);
-    assert_eq!(rt; empty.taken.len(), 0);
-    Ok(())
-}
-
-#[test]
-fn a_bad_line_adds_nothing(rt: HostRuntime) -> Result<(), Memory> {
-    let alloc = rt.alloc();
-    let bad = post(alloc, "<http://e/s> <http://e/p> <http://e/o> .\nx\n")?;
-    let input = format!(in alloc; "{bad}{LIST}GET /x HTTP/1.1\r\nHost: h\r\n\r\n{LIST}")?;
-    let line = refused(alloc, "400 Bad Request", "", "bad line 2")?;
-    let gone = refused(alloc, "404 Not Found", "", "no such resource")?;
-    let want = format!(in alloc; "{line}{EMPTY_LIST}{gone}{EMPTY_LIST}")?;
-    let ran = run(alloc, &["stdio", "r"], input.as_str(), CALM)?;
-    assert_eq!(rt; ran.status, 0);
-    assert!(rt; ran.taken.as_str() == want.as_str());
-    Ok(())
-}
-
-#[test]
-fn other_requests_are_no_resource(rt: HostRuntime) -> Result<(), Memory> {
-    let alloc = rt.alloc();
-    let gone = refused(alloc, "404 Not Found", "", "no such resource")?;
-    for head in [
-        "GET /rdf4j-server/repositories/other/statements HTTP/1.1",
-        "GET /rdf4j-server/repositories/r/statements/?x=y HTTP/1.1",
-        "get /rdf4j-server/repositories/r/statements HTTP/1.1",
-        "PUT /rdf4j-server/repositories/r/statements HTTP/1.1",
-        "POST /rdf4j-server/repositories/r/statements HTTP/1.1",
-        "POST /rdf4j-server/repositories/r/statements HTTP/1.1\r\nContent-Type: text/turtle",
-        "POST /rdf4j-server/repositories/r/statements HTTP/1.1\r\nContent-Type: text/plain\r\nContent-Type: text/plain",
-    ] {
-        let input = format!(in alloc; "{head}\r\nHost: h\r\n\r\n")?;
-        let ran = run(alloc, &["stdio", "r"], input.as_str(), CALM)?;
-        assert_eq!(rt; ran.status, 0);
-        assert!(rt; ran.taken.as_str() == gone.as_str(), "{head}");
-    }
-    let input = "HEAD /x HTTP/1.0\r\n\r\nGET /x HTTP/1.1\r\nHost: h\r\n\r\n";
-    let ran = run(alloc, &["stdio", "r"], input, CALM)?;
-    assert_eq!(rt; ran.status, 0);
-    assert!(rt;
-        ran.taken.as_str()
-            == "HTTP/1.1 404 Not Found\r\nContent-Type: text/plain;charset=UTF-8\r\nConnection: close\r\n\r\n"
-    );
-    Ok(())
-}
-
-#[test]
-fn documents_have_four_media_types(rt: HostRuntime) -> Result<(), Memory> {
-    let alloc = rt.alloc();
-    for media_type in [
-        "application/n-triples",
-        "TEXT/Plain; charset=utf-8",
-        "application/n-quads ; x=y",
-        "text/x-nquads",
-    ] {
-        let length = LINE.len();
-        let input = format!(in alloc;
-            "POST /rdf4j-server/repositories/r/statements HTTP/1.1\r\nHost: h\r\nContent-Type: {media_type}\r\nContent-Length: {length}\r\n\r\n{LINE}"
-        )?;
-        let ran = run(alloc, &["stdio", "r"], input.as_str(), CALM)?;
-        assert!(rt; ran.taken.as_str() == NO_CONTENT, "{media_type}");
-    }
+    assert!(rt; is_run(alloc, &["stdio", "r"], input, 0, want.as_str())?);
     Ok(())
 }
 
@@ -110,6 +86,11 @@ fn refused_frames_end_the_session(rt: HostRuntime) -> Result<(), Memory> {
         ("GET / HTTP/1.1\r\n\r\n", "400 Bad Request", "bad host"),
         (
             "GET / HTTP/1.0\r\nContent-Length: -1\r\n\r\n",
+            "400 Bad Request",
+            "bad body",
+        ),
+        (
+            "POST / HTTP/1.1\r\nHost: h\r\nContent-Length: 3\r\nTransfer-Encoding: chunked\r\n\r\n0\r\n\r\nGET / HTTP/1.1\r\nHost: h\r\n\r\n",
             "400 Bad Request",
             "bad body",
         ),
@@ -134,31 +115,11 @@ fn refused_frames_end_the_session(rt: HostRuntime) -> Result<(), Memory> {
             "truncated body",
         ),
     ] {
-        let want = refused(alloc, status, "Connection: close\r\n", text)?;
-        let ran = run(alloc, &["stdio", "r"], input, CALM)?;
-        assert_eq!(rt; ran.status, 1);
-        assert!(rt; ran.taken.as_str() == want.as_str(), "{text}");
-    }
-    Ok(())
-}
-
-#[test]
-fn chunked_uploads_are_kept(rt: HostRuntime) -> Result<(), Memory> {
-    let alloc = rt.alloc();
-    let input = format!(in alloc;
-        "{ADD}Transfer-Encoding: chunked\r\n\r\n5;x=y\r\n<http\r\n24\r\n://e/s> <http://e/p> <http://e/o> .\n\r\n0\r\nA: b\r\n\r\n{LIST}"
-    )?;
-    let list = listing(alloc, LINE)?;
-    let want = format!(in alloc; "{NO_CONTENT}{list}")?;
-    for cut in [0, 1, 3] {
-        let ran = run(
-            alloc,
-            &["stdio", "r"],
-            input.as_str(),
-            Outside { cut, ..CALM },
-        )?;
-        assert_eq!(rt; ran.status, 0);
-        assert!(rt; ran.taken.as_str() == want.as_str(), "cut {cut}");
+        let want = last_answer(alloc, status, text)?;
+        assert!(rt;
+            is_run(alloc, &["stdio", "r"], input, 1, want.as_str())?,
+            "{text}"
+        );
     }
     Ok(())
 }
@@ -167,34 +128,30 @@ fn chunked_uploads_are_kept(rt: HostRuntime) -> Result<(), Memory> {
 fn bodies_are_asked_for(rt: HostRuntime) -> Result<(), Memory> {
     let alloc = rt.alloc();
     let go_on = "HTTP/1.1 100 Continue\r\n\r\n";
-    let short = refused(
-        alloc,
-        "400 Bad Request",
-        "Connection: close\r\n",
-        "truncated body",
-    )?;
-    let host = refused(
-        alloc,
-        "400 Bad Request",
-        "Connection: close\r\n",
-        "bad host",
-    )?;
-    let kept = format!(in alloc; "{go_on}{NO_CONTENT}")?;
+    let done = answer(alloc, NO_CONTENT, "", "")?;
+    let short = last_answer(alloc, "400 Bad Request", "truncated body")?;
+    let host = last_answer(alloc, "400 Bad Request", "bad host")?;
+    let kept = format!(in alloc; "{go_on}{done}")?;
     let cut = format!(in alloc; "{go_on}{short}")?;
-    for (fields, body, want) in [
-        ("Content-Length: 41", LINE, kept.as_str()),
+    for (fields, body, status, want) in [
+        ("Content-Length: 41", LINE, 0, kept.as_str()),
         (
             "Transfer-Encoding: chunked",
             "29\r\n<http://e/s> <http://e/p> <http://e/o> .\n\r\n0\r\n\r\n",
+            0,
             kept.as_str(),
         ),
-        ("Content-Length: 42", LINE, cut.as_str()),
-        ("Content-Length: 0", "", NO_CONTENT),
-        ("Host: g\r\nContent-Length: 41", LINE, host.as_str()),
+        ("Content-Length: 42", LINE, 1, cut.as_str()),
+        ("Content-Length: 0", "", 0, done.as_str()),
+        ("Host: g\r\nContent-Length: 41", LINE, 1, host.as_str()),
     ] {
-        let input = format!(in alloc; "{ADD}Expect: 100-continue\r\n{fields}\r\n\r\n{body}")?;
-        let ran = run(alloc, &["stdio", "r"], input.as_str(), CALM)?;
-        assert!(rt; ran.taken.as_str() == want, "{fields}");
+        let fields = format!(in alloc; "{QUADS}Expect: 100-continue\r\n{fields}\r\n")?;
+        let head = request(alloc, "POST r/statements", fields.as_str(), "")?;
+        let input = format!(in alloc; "{head}{body}")?;
+        assert!(rt;
+            is_run(alloc, &["stdio", "r"], input.as_str(), status, want)?,
+            "{fields}"
+        );
     }
     Ok(())
 }
@@ -202,7 +159,8 @@ fn bodies_are_asked_for(rt: HostRuntime) -> Result<(), Memory> {
 #[test]
 fn a_body_is_asked_for_once_its_head_was_read(rt: HostRuntime) -> Result<(), Memory> {
     let alloc = rt.alloc();
-    let input = format!(in alloc; "{ADD}Expect: 100-continue\r\nContent-Length: 41\r\n\r\n{LINE}")?;
+    let fields = format!(in alloc; "{QUADS}Expect: 100-continue\r\n")?;
+    let input = request(alloc, "POST r/statements", fields.as_str(), LINE)?;
     let head = input.len().saturating_sub(LINE.len());
     for (cut, want) in [
         (head.saturating_sub(1), ""),
@@ -222,76 +180,65 @@ fn a_body_is_asked_for_once_its_head_was_read(rt: HostRuntime) -> Result<(), Mem
 }
 
 #[test]
-fn faults_leave_a_first_part(rt: HostRuntime) -> Result<(), Memory> {
+fn a_failing_write_leaves_a_first_part(rt: HostRuntime) -> Result<(), Memory> {
     let alloc = rt.alloc();
-    let first = post(alloc, LINE)?;
-    let input = format!(in alloc; "{first}{LIST}{LIST}")?;
-    let whole = run(alloc, &["stdio", "r"], input.as_str(), CALM)?;
+    let texts = texts_of(alloc, &[ADD, ADD, SIZE])?;
     for call in 0..7u64 {
         let outside = Outside {
             write_fails: Some(call),
             ..CALM
         };
-        let ran = run(alloc, &["stdio", "r"], input.as_str(), outside)?;
+        let ran = run(alloc, &["stdio", "r"], texts.input.as_str(), outside)?;
+        let answers = call.div_ceil(2) as usize;
         assert_eq!(rt; ran.status, if call < 6 { 3 } else { 0 }, "call {call}");
-        assert!(rt; whole.taken.as_str().starts_with(ran.taken.as_str()));
+        assert!(rt;
+            texts.want.as_str().starts_with(ran.taken.as_str()),
+            "call {call}"
+        );
+        assert_eq!(rt;
+            ran.taken.as_str().matches("HTTP/1.1").count(),
+            answers,
+            "call {call}"
+        );
     }
-    for call in 0..5u64 {
+    Ok(())
+}
+
+#[test]
+fn a_failing_read_leaves_the_answers_before_it(rt: HostRuntime) -> Result<(), Memory> {
+    let alloc = rt.alloc();
+    let texts = texts_of(alloc, &[ADD, ADD, SIZE])?;
+    let mut status = 2;
+    for call in 0..60u64 {
         let outside = Outside {
-            cut: 100,
+            cut: 40,
             read_fails: Some(call),
             ..CALM
         };
-        let ran = run(alloc, &["stdio", "r"], input.as_str(), outside)?;
-        assert_eq!(rt; ran.status, if call < 4 { 2 } else { 0 }, "call {call}");
-        assert!(rt; whole.taken.as_str().starts_with(ran.taken.as_str()));
+        let ran = run(alloc, &["stdio", "r"], texts.input.as_str(), outside)?;
+        if ran.status == 0 {
+            status = 0;
+        }
+        assert_eq!(rt; ran.status, status, "call {call}");
+        assert!(rt;
+            texts.want.as_str().starts_with(ran.taken.as_str()),
+            "call {call}"
+        );
     }
+    assert_eq!(rt; status, 0);
     Ok(())
 }
 
-/// Whether the words are refused, and nothing is written for them.
-fn are_refused(alloc: Global, words: &[&str]) -> Result<bool, Memory> {
-    let ran = run(alloc, words, LIST, CALM)?;
-    Ok(ran.status == 5 && ran.taken.len() == 0)
-}
-
-#[test]
-fn other_words_are_refused(rt: HostRuntime) -> Result<(), Memory> {
-    let alloc = rt.alloc();
-    let short = "R-34567890_234567890123456789012345678901234567890123456789012-4";
-    let long = "R-34567890_234567890123456789012345678901234567890123456789012-45";
-    assert!(rt; are_refused(alloc, &[])?);
-    assert!(rt; are_refused(alloc, &["stdio"])?);
-    assert!(rt; are_refused(alloc, &["serve", "r"])?);
-    assert!(rt; are_refused(alloc, &["stdio", "r", "s"])?);
-    assert!(rt; are_refused(alloc, &["stdio", ""])?);
-    assert!(rt; are_refused(alloc, &["stdio", "_r"])?);
-    assert!(rt; are_refused(alloc, &["stdio", "r/s"])?);
-    assert!(rt; are_refused(alloc, &["stdio", long])?);
-    assert!(rt; !are_refused(alloc, &["stdio", short])?);
-    Ok(())
-}
-
-#[test]
-fn one_to_six_distinct_orders_are_options(rt: HostRuntime) -> Result<(), Memory> {
-    let alloc = rt.alloc();
-    let six = [
-        "stdio", "--order", "spoc", "--order", "posc", "--order", "ospc", "--order", "cspo",
-        "--order", "cosp", "--order", "opsc", "r",
-    ];
-    let seven = [
-        "stdio", "--order", "spoc", "--order", "posc", "--order", "ospc", "--order", "cspo",
-        "--order", "cosp", "--order", "opsc", "--order", "pcso", "r",
-    ];
-    assert!(rt; !are_refused(alloc, &["stdio", "--order", "cpos", "r"])?);
-    assert!(rt; !are_refused(alloc, &six)?);
-    assert!(rt; are_refused(alloc, &seven)?);
-    assert!(rt; are_refused(alloc, &["stdio", "--order", "spoc", "--order", "spoc", "r"])?);
-    assert!(rt; are_refused(alloc, &["stdio", "--order", "spo", "r"])?);
-    assert!(rt; are_refused(alloc, &["stdio", "--order", "SPOC", "r"])?);
-    assert!(rt; are_refused(alloc, &["stdio", "--order", "r"])?);
-    assert!(rt; are_refused(alloc, &["stdio", "r", "--order", "spoc"])?);
-    assert!(rt; are_refused(alloc, &["stdio", "--Order", "spoc", "r"])?);
+/// Adds the upload of one quad more.
+fn add_upload(
+    alloc: Global,
+    input: &mut String,
+    lines: &mut String,
+    number: u32,
+) -> Result<(), Memory> {
+    let line = format!(in alloc; "<http://e/s{number}> <http://e/p> \"{number}\" .\n")?;
+    lines.push_str(line.as_str())?;
+    input.push_str(request(alloc, "POST r/statements", QUADS, line.as_str())?.as_str())?;
     Ok(())
 }
 
@@ -301,18 +248,13 @@ fn many_uploads_are_folded(rt: HostRuntime) -> Result<(), Memory> {
     let mut input = String::new(alloc);
     let mut lines = String::new(alloc);
     for number in 1_000..4_000u32 {
-        let line = format!(in alloc; "<http://e/s{number}> <http://e/p> \"{number}\" .\n")?;
-        lines.push_str(line.as_str())?;
-        input.push_str(write(alloc, "POST", "", line.as_str())?.as_str())?;
+        add_upload(alloc, &mut input, &mut lines, number)?;
     }
-    input.push_str(LIST)?;
+    input.push_str(request(alloc, "GET r/statements", "", "")?.as_str())?;
     let ran = run(alloc, &["stdio", "r"], input.as_str(), CALM)?;
+    let want = answer(alloc, OK, QUADS, lines.as_str())?;
     assert_eq!(rt; ran.status, 0);
-    assert!(rt;
-        ran.taken
-            .as_str()
-            .ends_with(listing(alloc, lines.as_str())?.as_str())
-    );
+    assert!(rt; ran.taken.as_str().ends_with(want.as_str()));
     Ok(())
 }
 
@@ -323,7 +265,7 @@ fn a_session_has_100_000_requests(rt: HostRuntime) -> Result<(), Memory> {
     for _ in 0..100_001u32 {
         input.push_str("GET / HTTP/1.1\r\nHost: h\r\n\r\n")?;
     }
-    let answer = refused(alloc, "404 Not Found", "", "no such resource")?;
+    let answer = answer(alloc, "404 Not Found", TEXT, "no such resource")?;
     let ran = run(alloc, &["stdio", "r"], input.as_str(), CALM)?;
     assert_eq!(rt; ran.status, 4);
     assert_eq!(rt; ran.taken.len(), answer.len().saturating_mul(100_000));
