@@ -1,3 +1,4 @@
 pub mod ListLemmas
 pub mod PassLemmas
+pub mod SendLemmas
 pub mod SoundLemmas

@@ -8,9 +8,11 @@
 mod calls;
 mod ends;
 mod kinds;
+mod laws;
 mod repo;
 mod shared;
 mod state;
 
+pub use laws::states_cross_threads;
 pub use repo::{Repo, RepoPass};
 pub use state::SharedState;
