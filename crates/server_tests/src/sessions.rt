@@ -1,46 +1,47 @@
 //! Sessions: their ends, their limits, and what failing sources and sinks leave.
 use crate::exchange::{
-    ADD, CALM, LINE, LIST, NO_CONTENT, OK, Outside, QUADS, SIZE, TEXT, answer, is_run, is_session,
-    last_answer, request, run, texts_of,
+    ADD, CALM, Exchange, LINE, LIST, NO_CONTENT, OK, Outside, QUADS, SIZE, TEXT, answer, is_run,
+    is_session, last_answer, request, run, texts_of,
 };
 use rdf_term::Memory;
 use std::alloc::Global;
 
+const THREE_REPOSITORIES: [Exchange; 9] = [
+    ADD,
+    (
+        "POST s/transactions",
+        "",
+        "",
+        "201 Created",
+        "Location: /rdf4j-server/repositories/s/transactions/0-3\r\n",
+        "",
+    ),
+    ADD,
+    SIZE,
+    ("GET s/size", "", "", OK, TEXT, "0"),
+    ("PUT s/transactions/0-3?action=SIZE", "", "", OK, TEXT, "0"),
+    (
+        "PUT r/transactions/0-3?action=SIZE",
+        "",
+        "",
+        "404 Not Found",
+        TEXT,
+        "no such transaction",
+    ),
+    ("GET t/size", "", "", OK, TEXT, "0"),
+    (
+        "GET u/size",
+        "",
+        "",
+        "404 Not Found",
+        TEXT,
+        "no such repository",
+    ),
+];
+
 #[test]
 fn each_repository_has_its_own_statements(rt: HostRuntime) -> Result<(), Memory> {
-    let exchanges = [
-        ADD,
-        (
-            "POST s/transactions",
-            "",
-            "",
-            "201 Created",
-            "Location: /rdf4j-server/repositories/s/transactions/0-3\r\n",
-            "",
-        ),
-        ADD,
-        SIZE,
-        ("GET s/size", "", "", OK, TEXT, "0"),
-        ("PUT s/transactions/0-3?action=SIZE", "", "", OK, TEXT, "0"),
-        (
-            "PUT r/transactions/0-3?action=SIZE",
-            "",
-            "",
-            "404 Not Found",
-            TEXT,
-            "no such transaction",
-        ),
-        ("GET t/size", "", "", OK, TEXT, "0"),
-        (
-            "GET u/size",
-            "",
-            "",
-            "404 Not Found",
-            TEXT,
-            "no such repository",
-        ),
-    ];
-    assert!(rt; is_session(rt.alloc(), &["stdio", "r", "s", "t"], &exchanges)?);
+    assert!(rt; is_session(rt.alloc(), &["stdio", "r", "s", "t"], &THREE_REPOSITORIES)?);
     Ok(())
 }
 

@@ -18,156 +18,228 @@ fn is_worked(alloc: Global, exchanges: &[Exchange]) -> Result<bool, Memory> {
     is_session(alloc, &["stdio", "r"], exchanges)
 }
 
-/// The begin of a transaction at a level, which is at this place with this name.
-const fn begun(line: &'static str, location: &'static str) -> Exchange {
-    (line, "", "", CREATED, location, "")
-}
-
-/// What is done without an answer.
-const fn done(line: &'static str) -> Exchange {
-    (line, "", "", NO_CONTENT, "", "")
-}
-
-/// A write of a document.
-const fn write(line: &'static str, document: &'static str) -> Exchange {
-    (line, QUADS, document, NO_CONTENT, "", "")
-}
-
-/// A size.
-const fn size(line: &'static str, text: &'static str) -> Exchange {
-    (line, "", "", OK, TEXT, text)
-}
-
-/// A commit that succeeds.
-const fn commit(line: &'static str) -> Exchange {
-    (line, "", "", OK, "", "")
-}
-
-/// A commit that meets a conflict on the one line.
-const fn conflict(line: &'static str) -> Exchange {
-    (line, "", "", "409 Conflict", TEXT, ONE)
-}
+/// Reads of a snapshot that was pinned at the begin, and of one that is pinned at each read.
+const SNAPSHOTS: [Exchange; 5] = [
+    (
+        "POST r/transactions?isolation-level=SNAPSHOT",
+        "",
+        "",
+        CREATED,
+        "Location: /rdf4j-server/repositories/r/transactions/0-4\r\n",
+        "",
+    ),
+    (
+        "POST r/transactions?isolation-level=SNAPSHOT_READ",
+        "",
+        "",
+        CREATED,
+        "Location: /rdf4j-server/repositories/r/transactions/1-3\r\n",
+        "",
+    ),
+    ("POST r/statements", QUADS, ONE, NO_CONTENT, "", ""),
+    ("PUT r/transactions/0-4?action=SIZE", "", "", OK, TEXT, "0"),
+    ("PUT r/transactions/1-3?action=SIZE", "", "", OK, TEXT, "1"),
+];
 
 #[test]
 fn snapshots_are_pinned_at_begin_or_at_each_read(rt: HostRuntime) -> Result<(), Memory> {
-    let exchanges = [
-        begun(
-            "POST r/transactions?isolation-level=SNAPSHOT",
-            "Location: /rdf4j-server/repositories/r/transactions/0-4\r\n",
-        ),
-        begun(
-            "POST r/transactions?isolation-level=SNAPSHOT_READ",
-            "Location: /rdf4j-server/repositories/r/transactions/1-3\r\n",
-        ),
-        write("POST r/statements", ONE),
-        size("PUT r/transactions/0-4?action=SIZE", "0"),
-        size("PUT r/transactions/1-3?action=SIZE", "1"),
-    ];
-    assert!(rt; is_worked(rt.alloc(), &exchanges)?);
+    assert!(rt; is_worked(rt.alloc(), &SNAPSHOTS)?);
     Ok(())
 }
+
+/// Reads at READ_UNCOMMITTED beside writes at it and at another level.
+const DIRTY_READS: [Exchange; 8] = [
+    (
+        "POST r/transactions?isolation-level=READ_UNCOMMITTED",
+        "",
+        "",
+        CREATED,
+        "Location: /rdf4j-server/repositories/r/transactions/0-1\r\n",
+        "",
+    ),
+    (
+        "POST r/transactions?isolation-level=READ_UNCOMMITTED",
+        "",
+        "",
+        CREATED,
+        "Location: /rdf4j-server/repositories/r/transactions/1-1\r\n",
+        "",
+    ),
+    (
+        "POST r/transactions?isolation-level=SNAPSHOT",
+        "",
+        "",
+        CREATED,
+        "Location: /rdf4j-server/repositories/r/transactions/2-4\r\n",
+        "",
+    ),
+    (
+        "PUT r/transactions/1-1?action=ADD",
+        QUADS,
+        ONE,
+        NO_CONTENT,
+        "",
+        "",
+    ),
+    (
+        "PUT r/transactions/2-4?action=ADD",
+        QUADS,
+        TWO,
+        NO_CONTENT,
+        "",
+        "",
+    ),
+    ("PUT r/transactions/0-1?action=SIZE", "", "", OK, TEXT, "1"),
+    ("DELETE r/transactions/1-1", "", "", NO_CONTENT, "", ""),
+    ("PUT r/transactions/0-1?action=SIZE", "", "", OK, TEXT, "0"),
+];
 
 #[test]
 fn dirty_reads_show_read_uncommitted_writes(rt: HostRuntime) -> Result<(), Memory> {
-    let exchanges = [
-        begun(
-            "POST r/transactions?isolation-level=READ_UNCOMMITTED",
-            "Location: /rdf4j-server/repositories/r/transactions/0-1\r\n",
-        ),
-        begun(
-            "POST r/transactions?isolation-level=READ_UNCOMMITTED",
-            "Location: /rdf4j-server/repositories/r/transactions/1-1\r\n",
-        ),
-        begun(
-            "POST r/transactions?isolation-level=SNAPSHOT",
-            "Location: /rdf4j-server/repositories/r/transactions/2-4\r\n",
-        ),
-        write("PUT r/transactions/1-1?action=ADD", ONE),
-        write("PUT r/transactions/2-4?action=ADD", TWO),
-        size("PUT r/transactions/0-1?action=SIZE", "1"),
-        done("DELETE r/transactions/1-1"),
-        size("PUT r/transactions/0-1?action=SIZE", "0"),
-    ];
-    assert!(rt; is_worked(rt.alloc(), &exchanges)?);
+    assert!(rt; is_worked(rt.alloc(), &DIRTY_READS)?);
     Ok(())
 }
 
+/// A write at NONE, and the end of its transaction.
+const UNISOLATED: [Exchange; 4] = [
+    (
+        "POST r/transactions?isolation-level=NONE",
+        "",
+        "",
+        CREATED,
+        "Location: /rdf4j-server/repositories/r/transactions/0-0\r\n",
+        "",
+    ),
+    (
+        "PUT r/transactions/0-0?action=ADD",
+        QUADS,
+        ONE,
+        NO_CONTENT,
+        "",
+        "",
+    ),
+    ("DELETE r/transactions/0-0", "", "", NO_CONTENT, "", ""),
+    ("GET r/size", "", "", OK, TEXT, "1"),
+];
+
 #[test]
 fn writes_at_none_outlive_a_rollback(rt: HostRuntime) -> Result<(), Memory> {
-    let exchanges = [
-        begun(
-            "POST r/transactions?isolation-level=NONE",
-            "Location: /rdf4j-server/repositories/r/transactions/0-0\r\n",
-        ),
-        write("PUT r/transactions/0-0?action=ADD", ONE),
-        done("DELETE r/transactions/0-0"),
-        size("GET r/size", "1"),
-    ];
-    assert!(rt; is_worked(rt.alloc(), &exchanges)?);
+    assert!(rt; is_worked(rt.alloc(), &UNISOLATED)?);
     Ok(())
 }
 
 const SERIALIZABLE: &str = "POST r/transactions?isolation-level=SERIALIZABLE";
 
+/// Two transactions that each read what the other one writes.
+const CLASHING: [Exchange; 11] = [
+    (
+        SERIALIZABLE,
+        "",
+        "",
+        CREATED,
+        "Location: /rdf4j-server/repositories/r/transactions/0-5\r\n",
+        "",
+    ),
+    (
+        SERIALIZABLE,
+        "",
+        "",
+        CREATED,
+        "Location: /rdf4j-server/repositories/r/transactions/1-5\r\n",
+        "",
+    ),
+    (
+        "PUT r/transactions/0-5?action=QUERY",
+        QUERY,
+        SELECT,
+        OK,
+        RESULTS,
+        NO_ROW,
+    ),
+    (
+        "PUT r/transactions/1-5?action=QUERY",
+        QUERY,
+        SELECT,
+        OK,
+        RESULTS,
+        NO_ROW,
+    ),
+    (
+        "PUT r/transactions/0-5?action=ADD",
+        QUADS,
+        ONE,
+        NO_CONTENT,
+        "",
+        "",
+    ),
+    (
+        "PUT r/transactions/1-5?action=ADD",
+        QUADS,
+        TWO,
+        NO_CONTENT,
+        "",
+        "",
+    ),
+    ("PUT r/transactions/0-5?action=COMMIT", "", "", OK, "", ""),
+    (
+        "PUT r/transactions/1-5?action=COMMIT",
+        "",
+        "",
+        "409 Conflict",
+        TEXT,
+        ONE,
+    ),
+    (
+        "PUT r/transactions/1-5?action=COMMIT",
+        "",
+        "",
+        "409 Conflict",
+        TEXT,
+        ONE,
+    ),
+    ("DELETE r/transactions/1-5", "", "", NO_CONTENT, "", ""),
+    (
+        "PUT r/transactions/1-5?action=COMMIT",
+        "",
+        "",
+        "404 Not Found",
+        TEXT,
+        "no such transaction",
+    ),
+];
+
 #[test]
 fn the_second_of_two_clashing_commits_is_refused(rt: HostRuntime) -> Result<(), Memory> {
-    let exchanges = [
-        begun(
-            SERIALIZABLE,
-            "Location: /rdf4j-server/repositories/r/transactions/0-5\r\n",
-        ),
-        begun(
-            SERIALIZABLE,
-            "Location: /rdf4j-server/repositories/r/transactions/1-5\r\n",
-        ),
-        (
-            "PUT r/transactions/0-5?action=QUERY",
-            QUERY,
-            SELECT,
-            OK,
-            RESULTS,
-            NO_ROW,
-        ),
-        (
-            "PUT r/transactions/1-5?action=QUERY",
-            QUERY,
-            SELECT,
-            OK,
-            RESULTS,
-            NO_ROW,
-        ),
-        write("PUT r/transactions/0-5?action=ADD", ONE),
-        write("PUT r/transactions/1-5?action=ADD", TWO),
-        commit("PUT r/transactions/0-5?action=COMMIT"),
-        conflict("PUT r/transactions/1-5?action=COMMIT"),
-        conflict("PUT r/transactions/1-5?action=COMMIT"),
-        done("DELETE r/transactions/1-5"),
-        (
-            "PUT r/transactions/1-5?action=COMMIT",
-            "",
-            "",
-            "404 Not Found",
-            TEXT,
-            "no such transaction",
-        ),
-    ];
-    assert!(rt; is_worked(rt.alloc(), &exchanges)?);
+    assert!(rt; is_worked(rt.alloc(), &CLASHING)?);
     Ok(())
 }
 
+/// A quad that comes and goes while a transaction has read everything.
+const PASSING: [Exchange; 5] = [
+    (
+        SERIALIZABLE,
+        "",
+        "",
+        CREATED,
+        "Location: /rdf4j-server/repositories/r/transactions/0-5\r\n",
+        "",
+    ),
+    ("PUT r/transactions/0-5?action=GET", "", "", OK, QUADS, ""),
+    ("POST r/statements", QUADS, ONE, NO_CONTENT, "", ""),
+    ("DELETE r/statements", "", "", NO_CONTENT, "", ""),
+    (
+        "PUT r/transactions/0-5?action=COMMIT",
+        "",
+        "",
+        "409 Conflict",
+        TEXT,
+        ONE,
+    ),
+];
+
 #[test]
 fn a_quad_that_came_and_went_is_a_conflict(rt: HostRuntime) -> Result<(), Memory> {
-    let exchanges = [
-        begun(
-            SERIALIZABLE,
-            "Location: /rdf4j-server/repositories/r/transactions/0-5\r\n",
-        ),
-        ("PUT r/transactions/0-5?action=GET", "", "", OK, QUADS, ""),
-        write("POST r/statements", ONE),
-        done("DELETE r/statements"),
-        conflict("PUT r/transactions/0-5?action=COMMIT"),
-    ];
-    assert!(rt; is_worked(rt.alloc(), &exchanges)?);
+    assert!(rt; is_worked(rt.alloc(), &PASSING)?);
     Ok(())
 }
 
@@ -199,7 +271,10 @@ fn a_repository_has_1_024_open_transactions(rt: HostRuntime) -> Result<(), Memor
         "too many transactions",
     );
     texts.add(alloc, refused)?;
-    texts.add(alloc, done("DELETE r/transactions/7-2"))?;
+    texts.add(
+        alloc,
+        ("DELETE r/transactions/7-2", "", "", NO_CONTENT, "", ""),
+    )?;
     add_begin(alloc, &mut texts, 1_026)?;
     let input = texts.input.as_str();
     assert!(rt; is_run(alloc, &["stdio", "r"], input, 0, texts.want.as_str())?);

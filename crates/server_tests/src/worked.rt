@@ -11,14 +11,15 @@ fn is_worked(alloc: Global, exchanges: &[Exchange]) -> Result<bool, Memory> {
     is_session(alloc, &["stdio", "r"], exchanges)
 }
 
+const NONE: Exchange = ("GET r/size", "", "", OK, TEXT, "0");
+
+const TWICE: [Exchange; 5] = [NONE, ADD, ADD, SIZE, LIST];
+
 #[test]
 fn a_line_is_kept_once(rt: HostRuntime) -> Result<(), Memory> {
     let alloc = rt.alloc();
-    let none = ("GET r/size", "", "", OK, TEXT, "0");
     assert!(rt; is_worked(alloc, &[])?);
-    assert!(rt; is_worked(alloc, &[none])?);
-    assert!(rt; is_worked(alloc, &[ADD, LIST])?);
-    assert!(rt; is_worked(alloc, &[none, ADD, ADD, SIZE, LIST])?);
+    assert!(rt; is_worked(alloc, &TWICE)?);
     Ok(())
 }
 
@@ -67,43 +68,46 @@ fn chunked_uploads_are_kept(rt: HostRuntime) -> Result<(), Memory> {
     Ok(())
 }
 
+const ESCAPED: [Exchange; 2] = [
+    (
+        "POST r/statements",
+        QUADS,
+        "<http://e/s>\t<http://e/p> \"caf\\u00E9 \\U0001F600\"@en <http://e/g> . # c\r\n",
+        NO_CONTENT,
+        "",
+        "",
+    ),
+    (
+        "GET r/statements",
+        "",
+        "",
+        OK,
+        QUADS,
+        "<http://e/s> <http://e/p> \"caf\u{e9} \u{1f600}\"@en <http://e/g> .\n",
+    ),
+];
+
 #[test]
 fn escaped_upload_is_listed_canonically(rt: HostRuntime) -> Result<(), Memory> {
-    let upload = "<http://e/s>\t<http://e/p> \"caf\\u00E9 \\U0001F600\"@en <http://e/g> . # c\r\n";
-    let line = "<http://e/s> <http://e/p> \"caf\u{e9} \u{1f600}\"@en <http://e/g> .\n";
-    assert_eq!(rt; line.len(), 57);
-    assert!(rt;
-        is_worked(
-            rt.alloc(),
-            &[
-                ("POST r/statements", QUADS, upload, NO_CONTENT, "", ""),
-                ("GET r/statements", "", "", OK, QUADS, line),
-            ],
-        )?
-    );
+    assert!(rt; is_worked(rt.alloc(), &ESCAPED)?);
     Ok(())
 }
 
+const FOUR_LINES: [Exchange; 2] = [
+    (
+        "POST r/statements",
+        QUADS,
+        "<http://e/s> <http://e/p> \"1\" .\n<http://e/s> <http://e/p> \"1\" .\n<http://e/s> <http://e/p> \"a\\u12\" .\n<http://e/s> <http://e/p> \"1\" .\n",
+        "400 Bad Request",
+        TEXT,
+        "bad line 3",
+    ),
+    NONE,
+];
+
 #[test]
 fn the_third_of_four_lines_is_bad(rt: HostRuntime) -> Result<(), Memory> {
-    let four =
-        "<http://e/s> <http://e/p> \"1\" .\n<http://e/s> <http://e/p> \"1\" .\n<http://e/s> <http://e/p> \"a\\u12\" .\n<http://e/s> <http://e/p> \"1\" .\n";
-    assert!(rt;
-        is_worked(
-            rt.alloc(),
-            &[
-                (
-                    "POST r/statements",
-                    QUADS,
-                    four,
-                    "400 Bad Request",
-                    TEXT,
-                    "bad line 3"
-                ),
-                ("GET r/size", "", "", OK, TEXT, "0"),
-            ],
-        )?
-    );
+    assert!(rt; is_worked(rt.alloc(), &FOUR_LINES)?);
     Ok(())
 }
 
@@ -129,29 +133,36 @@ fn the_second_of_three_lines_is_too_long(rt: HostRuntime) -> Result<(), Memory> 
     Ok(())
 }
 
+const PUT_IN_TWO_CONTEXTS: [Exchange; 3] = [
+    (
+        "POST r/statements",
+        QUADS,
+        "<http://e/s> <http://e/p> \"1\" .\n<http://e/s> <http://e/p> \"2\" <http://e/g1> .\n<http://e/s> <http://e/p> \"3\" <http://e/g2> .\n",
+        NO_CONTENT,
+        "",
+        "",
+    ),
+    (
+        "PUT r/statements?context=null&context=%3Chttp%3A%2F%2Fe%2Fg1%3E",
+        QUADS,
+        "<http://e/s> <http://e/p> \"9\" .\n",
+        NO_CONTENT,
+        "",
+        "",
+    ),
+    (
+        "GET r/statements",
+        "",
+        "",
+        OK,
+        QUADS,
+        "<http://e/s> <http://e/p> \"3\" <http://e/g2> .\n<http://e/s> <http://e/p> \"9\" .\n<http://e/s> <http://e/p> \"9\" <http://e/g1> .\n",
+    ),
+];
+
 #[test]
 fn put_with_two_contexts_lists_three_lines(rt: HostRuntime) -> Result<(), Memory> {
-    let content =
-        "<http://e/s> <http://e/p> \"1\" .\n<http://e/s> <http://e/p> \"2\" <http://e/g1> .\n<http://e/s> <http://e/p> \"3\" <http://e/g2> .\n";
-    let left =
-        "<http://e/s> <http://e/p> \"3\" <http://e/g2> .\n<http://e/s> <http://e/p> \"9\" .\n<http://e/s> <http://e/p> \"9\" <http://e/g1> .\n";
-    assert!(rt;
-        is_worked(
-            rt.alloc(),
-            &[
-                ("POST r/statements", QUADS, content, NO_CONTENT, "", ""),
-                (
-                    "PUT r/statements?context=null&context=%3Chttp%3A%2F%2Fe%2Fg1%3E",
-                    QUADS,
-                    "<http://e/s> <http://e/p> \"9\" .\n",
-                    NO_CONTENT,
-                    "",
-                    "",
-                ),
-                ("GET r/statements", "", "", OK, QUADS, left),
-            ],
-        )?
-    );
+    assert!(rt; is_worked(rt.alloc(), &PUT_IN_TWO_CONTEXTS)?);
     Ok(())
 }
 
@@ -159,48 +170,45 @@ fn put_with_two_contexts_lists_three_lines(rt: HostRuntime) -> Result<(), Memory
 const TAGGED: &str =
     "<http://e/s> <http://e/p> \"a\"@en .\n<http://e/s> <http://e/p> \"1\"^^<http://www.w3.org/2001/XMLSchema#integer> .\n";
 
+const QUERIES: [Exchange; 5] = [
+    ("POST r/statements", QUADS, TAGGED, NO_CONTENT, "", ""),
+    (
+        "POST r",
+        QUERY,
+        "SELECT ?o WHERE { ?s <http://e/p> ?o }",
+        OK,
+        RESULTS,
+        "{\"head\":{\"vars\":[\"o\"]},\"results\":{\"bindings\":[{\"o\":{\"type\":\"literal\",\"value\":\"a\",\"xml:lang\":\"en\"}},{\"o\":{\"datatype\":\"http://www.w3.org/2001/XMLSchema#integer\",\"type\":\"literal\",\"value\":\"1\"}}]}}",
+    ),
+    (
+        "GET r?query=SELECT+?s+WHERE+{+?s+%3Chttp://e/p%3E+?o+}",
+        "",
+        "",
+        OK,
+        RESULTS,
+        "{\"head\":{\"vars\":[\"s\"]},\"results\":{\"bindings\":[{\"s\":{\"type\":\"uri\",\"value\":\"http://e/s\"}},{\"s\":{\"type\":\"uri\",\"value\":\"http://e/s\"}}]}}",
+    ),
+    (
+        "POST r",
+        QUERY,
+        "SELECT DISTINCT ?s WHERE { ?s <http://e/p> ?o }",
+        OK,
+        RESULTS,
+        "{\"head\":{\"vars\":[\"s\"]},\"results\":{\"bindings\":[{\"s\":{\"type\":\"uri\",\"value\":\"http://e/s\"}}]}}",
+    ),
+    (
+        "POST r",
+        QUERY,
+        "SELECT ?s WHERE { ?s <http://e/p> ?o } LIMIT 0",
+        OK,
+        RESULTS,
+        "{\"head\":{\"vars\":[\"s\"]},\"results\":{\"bindings\":[]}}",
+    ),
+];
+
 #[test]
 fn queries_are_answered_in_json(rt: HostRuntime) -> Result<(), Memory> {
-    assert!(rt;
-        is_worked(
-            rt.alloc(),
-            &[
-                ("POST r/statements", QUADS, TAGGED, NO_CONTENT, "", ""),
-                (
-                    "POST r",
-                    QUERY,
-                    "SELECT ?o WHERE { ?s <http://e/p> ?o }",
-                    OK,
-                    RESULTS,
-                    "{\"head\":{\"vars\":[\"o\"]},\"results\":{\"bindings\":[{\"o\":{\"type\":\"literal\",\"value\":\"a\",\"xml:lang\":\"en\"}},{\"o\":{\"datatype\":\"http://www.w3.org/2001/XMLSchema#integer\",\"type\":\"literal\",\"value\":\"1\"}}]}}",
-                ),
-                (
-                    "GET r?query=SELECT+?s+WHERE+{+?s+%3Chttp://e/p%3E+?o+}",
-                    "",
-                    "",
-                    OK,
-                    RESULTS,
-                    "{\"head\":{\"vars\":[\"s\"]},\"results\":{\"bindings\":[{\"s\":{\"type\":\"uri\",\"value\":\"http://e/s\"}},{\"s\":{\"type\":\"uri\",\"value\":\"http://e/s\"}}]}}",
-                ),
-                (
-                    "POST r",
-                    QUERY,
-                    "SELECT DISTINCT ?s WHERE { ?s <http://e/p> ?o }",
-                    OK,
-                    RESULTS,
-                    "{\"head\":{\"vars\":[\"s\"]},\"results\":{\"bindings\":[{\"s\":{\"type\":\"uri\",\"value\":\"http://e/s\"}}]}}",
-                ),
-                (
-                    "POST r",
-                    QUERY,
-                    "SELECT ?s WHERE { ?s <http://e/p> ?o } LIMIT 0",
-                    OK,
-                    RESULTS,
-                    "{\"head\":{\"vars\":[\"s\"]},\"results\":{\"bindings\":[]}}",
-                ),
-            ],
-        )?
-    );
+    assert!(rt; is_worked(rt.alloc(), &QUERIES)?);
     Ok(())
 }
 
@@ -214,27 +222,26 @@ fn twenty(alloc: Global) -> Result<String, Memory> {
     Ok(lines)
 }
 
+const BEHIND_CURL: [Exchange; 3] = [
+    (
+        "POST r",
+        "Content-Type: application/x-www-form-urlencoded\r\n",
+        "query=SELECT+%3Fo+WHERE+%7B+%3Fs+%3Chttp%3A%2F%2Fe%2Fp%3E+%3Fo+%7D+LIMIT+1",
+        OK,
+        RESULTS,
+        "{\"head\":{\"vars\":[\"o\"]},\"results\":{\"bindings\":[{\"o\":{\"type\":\"literal\",\"value\":\"00\"}}]}}",
+    ),
+    ("PUT r/namespaces/ex", "", "http://e/", NO_CONTENT, "", ""),
+    ("GET r/namespaces/ex", "", "", OK, TEXT, "http://e/"),
+];
+
 #[test]
 fn uploads_of_curl_are_asked_for(rt: HostRuntime) -> Result<(), Memory> {
     let alloc = rt.alloc();
     let lines = twenty(alloc)?;
     let length = lines.len();
     assert_eq!(rt; length, 660);
-    let later = texts_of(
-        alloc,
-        &[
-            (
-                "POST r",
-                "Content-Type: application/x-www-form-urlencoded\r\n",
-                "query=SELECT+%3Fo+WHERE+%7B+%3Fs+%3Chttp%3A%2F%2Fe%2Fp%3E+%3Fo+%7D+LIMIT+1",
-                OK,
-                RESULTS,
-                "{\"head\":{\"vars\":[\"o\"]},\"results\":{\"bindings\":[{\"o\":{\"type\":\"literal\",\"value\":\"00\"}}]}}",
-            ),
-            ("PUT r/namespaces/ex", "", "http://e/", NO_CONTENT, "", ""),
-            ("GET r/namespaces/ex", "", "", OK, TEXT, "http://e/"),
-        ],
-    )?;
+    let later = texts_of(alloc, &BEHIND_CURL)?;
     let asked = later.input.as_str();
     let input = format!(in alloc;
         "POST /rdf4j-server/repositories/r/statements HTTP/1.1\r\nHost: localhost:8080\r\nUser-Agent: curl/7.88.1\r\nAccept: */*\r\nContent-Type: application/n-triples\r\nContent-Length: {length}\r\nExpect: 100-continue\r\n\r\n{lines}{asked}"
@@ -247,49 +254,46 @@ fn uploads_of_curl_are_asked_for(rt: HostRuntime) -> Result<(), Memory> {
     Ok(())
 }
 
+const FORMS: [Exchange; 6] = [
+    ("GET /x", "", "", "404 Not Found", TEXT, "no such resource"),
+    (
+        "GET x/size",
+        "",
+        "",
+        "404 Not Found",
+        TEXT,
+        "no such repository",
+    ),
+    (
+        "GET r/statements",
+        "Accept: application/rdf+xml\r\n",
+        "",
+        "406 Not Acceptable",
+        TEXT,
+        "not acceptable",
+    ),
+    (
+        "PUT r/size",
+        "",
+        "",
+        "405 Method Not Allowed",
+        "Content-Type: text/plain;charset=UTF-8\r\nAllow: GET\r\n",
+        "method not allowed",
+    ),
+    (
+        "GET r/contexts",
+        "Accept: text/*;q=0.5, application/json\r\n",
+        "",
+        OK,
+        "Content-Type: application/json\r\n",
+        "{\"head\":{\"vars\":[\"contextID\"]},\"results\":{\"bindings\":[]}}",
+    ),
+    ("GET http://h/rdf4j-server/protocol", "", "", OK, TEXT, "12"),
+];
+
 #[test]
 fn requests_that_are_no_call_are_refused_by_their_form(rt: HostRuntime) -> Result<(), Memory> {
-    assert!(rt;
-        is_worked(
-            rt.alloc(),
-            &[
-                ("GET /x", "", "", "404 Not Found", TEXT, "no such resource"),
-                (
-                    "GET x/size",
-                    "",
-                    "",
-                    "404 Not Found",
-                    TEXT,
-                    "no such repository"
-                ),
-                (
-                    "GET r/statements",
-                    "Accept: application/rdf+xml\r\n",
-                    "",
-                    "406 Not Acceptable",
-                    TEXT,
-                    "not acceptable",
-                ),
-                (
-                    "PUT r/size",
-                    "",
-                    "",
-                    "405 Method Not Allowed",
-                    "Content-Type: text/plain;charset=UTF-8\r\nAllow: GET\r\n",
-                    "method not allowed",
-                ),
-                (
-                    "GET r/contexts",
-                    "Accept: text/*;q=0.5, application/json\r\n",
-                    "",
-                    OK,
-                    "Content-Type: application/json\r\n",
-                    "{\"head\":{\"vars\":[\"contextID\"]},\"results\":{\"bindings\":[]}}",
-                ),
-                ("GET http://h/rdf4j-server/protocol", "", "", OK, TEXT, "12"),
-            ],
-        )?
-    );
+    assert!(rt; is_worked(rt.alloc(), &FORMS)?);
     Ok(())
 }
 
