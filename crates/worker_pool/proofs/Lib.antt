@@ -1,0 +1,5 @@
+pub mod ColumnLemmas
+pub mod CountLemmas
+pub mod DoorLemmas
+pub mod JobLemmas
+pub mod PoolLemmas
