@@ -3,8 +3,8 @@ ghost use Rattle.api_paths.specs.Levels.{level_named, last_part, level_of};
 
 use journal::Level;
 
-/// The level of a name, in capitals.
-fn level_named(name: &[u8]) -> Option<Level>
+/// The level of isolation of this name, in capitals.
+pub fn level_named(name: &[u8]) -> Option<Level>
     ensures { result ≡ level_named name.now }
 {
     if name == b"NONE".as_slice() {

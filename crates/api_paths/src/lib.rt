@@ -9,7 +9,7 @@ mod target;
 mod transaction_name;
 
 pub use laws::one_transaction;
-pub use level::level_of;
+pub use level::{level_named, level_of};
 pub use prefix::is_prefix;
 pub use target::{Texts, origin_form, segments};
 pub use transaction_name::read_transaction_name;

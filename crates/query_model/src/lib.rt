@@ -5,6 +5,7 @@
 //! prints or answers queries or speaks of their answers.
 #![tactic(auto)]
 
+mod classes;
 mod compared;
 mod found;
 mod laws;
@@ -14,6 +15,7 @@ mod query;
 mod table;
 mod well_formed;
 
+pub use classes::{is_label_start, is_name_char, is_var_char};
 pub use found::Found;
 pub use laws::{
     each_solution_once, few_lookups, found_in_each_view, found_in_one_view, found_is_valid,

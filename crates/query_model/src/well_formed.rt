@@ -5,27 +5,12 @@ ghost use Rattle.std.specs.Str.{chars};
 ghost use Rattle.query_model.specs.WellFormed.{AreProjected, ArePatterns, AreTemplate, IsCut, IsWellFormed, has_variable, is_label, is_label_start, is_var_char, is_var_name, is_variable, is_variable_graph};
 ghost use Rattle.query_model.specs.WellFormedTests.{are_patterns, are_projected, are_template, is_any, is_blank, is_count, is_cut, is_fixed, is_fixed_iri, is_label_free, is_limit, is_name, is_no_colon, is_none, is_pattern, is_scope, is_slot, is_template_pattern, is_var_or_iri};
 
+use crate::classes::{is_label_start, is_var_char};
 use crate::{Cut, Names1, Patterns, Query, Scope, Slot, TriplePattern};
-use rdf_term::{Term, Text, is_digit, is_pn_chars_base};
+use rdf_term::{Term, Text};
 
 /// LIMIT and OFFSET have at most 18 digits.
 const COUNTS: u64 = 1_000_000_000_000_000_000;
-
-/// Whether a variable's name and a label may begin with the character.
-fn is_label_start(character: char) -> bool
-    ensures { result ≡ is_label_start character }
-{
-    (is_pn_chars_base(character) || matches!(character, '_')) || is_digit(character)
-}
-
-/// Whether a variable's name may go on with the character.
-fn is_var_char(character: char) -> bool
-    ensures { result ≡ is_var_char character }
-{
-    (is_pn_chars_base(character) || matches!(character, '_'))
-        || matches!(character,
-            '0'..='9' | '\u{B7}' | '\u{300}'..='\u{36F}' | '\u{203F}'..='\u{2040}')
-}
 
 /// Whether a variable's name may have all these characters behind its first.
 fn are_var_chars(text: &str) -> bool

@@ -1,40 +1,11 @@
 //! The classes of characters of the SPARQL 1.1 grammar (section 19.8), beside those that N-Triples has
-//! too.
+//! too and those of names and labels.
 ghost use Rattle.std.specs.Prelude.{◌≡◌};
-ghost use Rattle.query_model.specs.WellFormed.{is_name_start, is_var_char, is_name_char, is_label_start};
 ghost use Rattle.query_tokens.specs.Classes.{is_local_start, is_local_char, is_local_escape, is_alphanumeric, is_exponent_mark, is_sign, closing, is_raw, is_short_escape};
 
 use crate::kind::Quoted;
-use rdf_term::{is_digit, is_echar, is_iri_char, is_letter, is_pn_chars_base, is_string_char};
-
-/// PN_CHARS_U.
-fn is_name_start(c: char) -> bool
-    ensures { result ≡ is_name_start c }
-{
-    is_pn_chars_base(c) || c == '_'
-}
-
-/// What the name of a variable may go on with.
-pub fn is_var_char(c: char) -> bool
-    ensures { result ≡ is_var_char c }
-{
-    is_name_start(c)
-        || matches!(c, '0'..='9' | '\u{B7}' | '\u{300}'..='\u{36F}' | '\u{203F}'..='\u{2040}')
-}
-
-/// PN_CHARS.
-pub fn is_name_char(c: char) -> bool
-    ensures { result ≡ is_name_char c }
-{
-    is_var_char(c) || c == '-'
-}
-
-/// What the name of a variable and a label begin with.
-pub fn is_label_start(c: char) -> bool
-    ensures { result ≡ is_label_start c }
-{
-    is_name_start(c) || is_digit(c)
-}
+use query_model::{is_label_start, is_name_char};
+use rdf_term::{is_digit, is_echar, is_iri_char, is_letter, is_string_char};
 
 /// What a local part may begin with as it is.
 pub fn is_local_start(c: char) -> bool

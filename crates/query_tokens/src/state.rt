@@ -3,10 +3,10 @@ ghost use Rattle.query_tokens.specs.Scanner.{lookup, marks_begin, from_start, in
 
 use crate::Number;
 use crate::class::{
-    is_alphanumeric, is_exponent_mark, is_label_start, is_local_char, is_local_escape,
-    is_local_start, is_name_char, is_sign, is_var_char,
+    is_alphanumeric, is_exponent_mark, is_local_char, is_local_escape, is_local_start, is_sign,
 };
 use crate::kind::{Kind, Quoted};
+use query_model::{is_label_start, is_name_char, is_var_char};
 use rdf_term::{is_digit, is_hex_digit, is_letter, is_pn_chars_base};
 
 /// What the characters of a token so far are.

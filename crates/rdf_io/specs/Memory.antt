@@ -1,5 +1,5 @@
 -- What contracts see of the sources and sinks in memory.
-use Rattle.std.specs.Prelude.{◌≡◌, ℕ, ◌==◌, Bool, ◌&&◌, List, [], length, min, max, slice_get}
+use Rattle.std.specs.Prelude.{◌≡◌, ℕ, ◌==◌, Bool, ◌&&◌, List, [], ◌∷◌, length, Option, Some, None, true, false, min, max, slice_get}
 use Rattle.std.specs.Option.{option_map_or}
 use Rattle.rdf_io.specs.Doors.{Link}
 
@@ -69,3 +69,36 @@ pub record DoorState : Type 0 where
   pub broken_sources : ℕ
   -- how many links were handed back whose sink had failed
   pub broken_sinks : ℕ
+
+-- a dial in memory
+pub record DialState : Type 0 where
+  -- the link, where it was not given yet
+  pub rest : Option (SourceState × SinkState)
+  -- the link, where it was handed back
+  pub back : Option (SourceState × SinkState)
+  -- the numbers of the dials that fail
+  pub fails : List ℕ
+  -- how many dials there were
+  pub calls : ℕ
+  -- how many of them failed
+  pub faults : ℕ
+  -- how many links were handed back whose source had failed
+  pub broken_sources : ℕ
+  -- how many links were handed back whose sink had failed
+  pub broken_sinks : ℕ
+
+-- what there may be one of, as a list
+abbrev pub at_most_one : {X : Type 0} → Option X → List X
+at_most_one None = []
+at_most_one (Some x) = x ∷ []
+
+-- the link is out where it was given and not handed back
+abbrev pub is_out : {X : Type 0} → Option X → Option X → Bool
+is_out None None = true
+is_out None (Some _) = false
+is_out (Some _) _ = false
+
+-- how many links were given where this one was not
+abbrev pub count_given : {X : Type 0} → Option X → ℕ
+count_given None = 1
+count_given (Some _) = 0

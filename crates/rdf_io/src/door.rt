@@ -58,3 +58,14 @@ pub trait Door {
         ensures sources { broken_sources self.new ≡ with_broken (Self.In.faults input) (broken_sources self.old) }
         ensures sinks { broken_sinks self.new ≡ with_broken (Self.Out.faults output) (broken_sinks self.old) };
 }
+
+/// The count of the broken ones after one with so many faults.
+pub(crate) fn with_broken(faults: u64, count: u64) -> u64
+    ensures { result ≡ with_broken faults count }
+{
+    if faults > 0 {
+        count.saturating_add(1)
+    } else {
+        count
+    }
+}

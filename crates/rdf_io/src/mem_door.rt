@@ -3,6 +3,7 @@ ghost use Rattle.rdf_io.specs.Causes.{HasCause, one_more};
 ghost use Rattle.rdf_io.specs.Doors.{OnLink, GivesFirst, StartsEmpty, HandsBack, with_broken};
 ghost use Rattle.rdf_io.specs.Memory.{DoorState, IsUnused, told_of, got_of};
 
+use crate::door::with_broken;
 use crate::{Door, Failed, MemSink, MemSource};
 use rdf_term::Bytes;
 use std::alloc::Global;
@@ -71,17 +72,6 @@ fn restore(links: &mut [(MemSource, MemSink)], place: usize, link: (MemSource, M
     ensures after { drop (place + 1) links.new ≡ drop (place + 1) links.old }
 {
     links[place] = link;
-}
-
-/// The count of the broken ones after one with so many faults.
-pub(crate) fn with_broken(faults: u64, count: u64) -> u64
-    ensures { result ≡ with_broken faults count }
-{
-    if faults > 0 {
-        count.saturating_add(1)
-    } else {
-        count
-    }
 }
 
 impl MemDoor {

@@ -1,6 +1,6 @@
 ghost use Rattle.std.specs.Prelude.{◌≡◌, false, None, IfOk};
 
-use crate::mem_door::with_broken;
+use crate::door::with_broken;
 use crate::{Door, Failed, ReaderSource, Sink, Source, WriterSink};
 use std::io;
 use std::net::{TcpListener, TcpStream};
@@ -29,7 +29,8 @@ pub struct TcpDoor<'a> {
 pub(crate) fn both_ends(stream: TcpStream) -> io::Result<(TcpSource, TcpSink)>
     ensures { IfOk result (λ l. (⟦<ReaderSource<TcpStream> as Source>⟧.faults l.0 ≡ 0) × (⟦<WriterSink<TcpStream> as Sink>⟧.faults l.1 ≡ 0)) }
 {
-    stream.set_nodelay(true)?;
+    // A system that refuses it sends the small pieces late, and answers all the same.
+    let _ = stream.set_nodelay(true);
     let other = stream.try_clone()?;
     Ok((ReaderSource::new(other), WriterSink::new(stream)))
 }
