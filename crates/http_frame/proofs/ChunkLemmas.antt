@@ -318,16 +318,16 @@ body_over bytes body q room h over =
     (past.0, ap (λ (z : List ℕ). trace (Size 0 0) room (z ++ q)) h.bytes_are ∙ ap (trace (Size 0 0) room) (tail_bytes h.chunks h.last h.trailers q) ∙ past.1)
 
 -- a chunk that is too long
-pub long_read : (b : List ℕ) → HasLongChunk b → (rest : List ℕ) × (trace (Size 0 0) 16777216 b ≡ ended None rest)
-long_read b h =
+pub long_read : (most : ℕ) (b : List ℕ) → HasLongChunk most b → (rest : List ℕ) × (trace (Size 0 0) most b ≡ ended None rest)
+long_read most b h =
     let over = h.long in
     let tail = h.line ++ h.rest in
-    let read = read_chunks 16777216 tail h.are_chunks in
-    elim (cases_lt 16777216 (length h.body)) [
-      | inl before ↦ (let past = read.1 before in (past.0, ap (trace (Size 0 0) 16777216) h.b_is ∙ past.1))
+    let read = read_chunks most tail h.are_chunks in
+    elim (cases_lt most (length h.body)) [
+      | inl before ↦ (let past = read.1 before in (past.0, ap (trace (Size 0 0) most) h.b_is ∙ past.1))
       | inr fits ↦ (
         h.rest,
-        ap (trace (Size 0 0) 16777216) h.b_is ∙ read.0 fits
-            ∙ ap (carry h.body) (chunk_long h.line h.rest h.size (16777216 - length h.body) h.is_line (omega arith)),
+        ap (trace (Size 0 0) most) h.b_is ∙ read.0 fits
+            ∙ ap (carry h.body) (chunk_long h.line h.rest h.size (most - length h.body) h.is_line (omega arith)),
       )
     ]

@@ -9,6 +9,7 @@ use Rattle.http_frame.specs.Framing.{framing}
 use Rattle.http_frame.specs.Frames.{BeginsWithHead, IsRequest, IsHeadRefused, no_head, bad_head, IsRefused, by_head, by_body, Frame, nothing, request, refusal, IsFrame}
 use Rattle.http_frame.specs.Heads.{HasNoHead, Shows}
 use Rattle.http_frame.specs.Laws.{answer_behind}
+use Rattle.http_frame.specs.Limits.{most_body}
 use Rattle.http_frame.specs.Messages.{SeenRequest}
 use Rattle.http_frame.specs.Streams.{IsStream}
 use Rattle.http_frame.specs.declared.fault.FrameFault.{FrameFault}
@@ -57,7 +58,7 @@ one_request b r r' rest rest' x y =
     let heads = (one_head b r.head r'.head x.after y.after x.begins y.begins).0 in
     let alike = framed_alike b r.head r'.head x.after y.after x.framed_as y.framed_as x.begins y.begins x.framed y.framed in
     let second = subst (λ (f : Framing). IsBody f x.after r'.body rest') alike.0 (subst (λ (z : List ℕ). IsBody y.framed_as z r'.body rest') alike.1 y.body) in
-    let same = one_body x.framed_as x.after r.body r'.body rest rest' x.body second in
+    let same = one_body most_body x.framed_as x.after r.body r'.body rest rest' x.body second in
     let bodies = same.0 in
     let all : request_with r.head r.body ≡ request_with r'.head r'.body = cc in
     (all, same.1)
@@ -67,7 +68,7 @@ not_both b r rest fault x (by_head (no_head e some none)) = no_head_here b r.hea
 not_both b r rest fault x (by_head (bad_head head after begins e)) = cc (x.framed, e, same_framing b r.head head x.after after x.begins begins)
 not_both b r rest fault x (by_body head after f begins framed refused) =
     let alike = framed_alike b r.head head x.after after x.framed_as f x.begins begins x.framed framed in
-    body_or_refused x.framed_as x.after r.body rest fault x.body
+    body_or_refused most_body x.framed_as x.after r.body rest fault x.body
     (subst (λ (g : Framing). IsBodyRefused g x.after fault) alike.0 (subst (λ (z : List ℕ). IsBodyRefused f z fault) alike.1 refused))
 
 pub one_fault : (b : List ℕ) (fault fault' : FrameFault) → IsRefused b fault → IsRefused b fault' → fault ≡ fault'
@@ -84,7 +85,7 @@ one_fault b fault fault' (by_body head after f begins framed refused) (by_head (
     cc (e, framed, same_framing b head head' after after' begins begins')
 one_fault b fault fault' (by_body head after f begins framed refused) (by_body head' after' f' begins' framed' refused') =
     let alike = framed_alike b head head' after after' f f' begins begins' framed framed' in
-    one_body_fault f after fault fault' refused
+    one_body_fault most_body f after fault fault' refused
     (subst (λ (g : Framing). IsBodyRefused g after fault') alike.0 (subst (λ (z : List ℕ). IsBodyRefused f' z fault') alike.1 refused'))
 
 pub no_request : (r : SeenRequest) (rest : List ℕ) → IsRequest [] r rest → ⊥
@@ -118,7 +119,7 @@ stays_request b r rest more x =
       };
       framed_as = x.framed_as;
       framed = x.framed;
-      body = body_stays x.framed_as x.after r.body rest more x.body;
+      body = body_stays most_body x.framed_as x.after r.body rest more x.body;
     }
 
 -- no head: the answer is that on the frame

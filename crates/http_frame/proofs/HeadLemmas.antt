@@ -1,5 +1,5 @@
 -- Lemmas on heads.
-use Rattle.std.proofs.Common.{◌≡◌, ℕ, ◌<◌, ◌≤◌, List, [], ◌++◌, true, length, drop, sym, ap, ◌∙◌, subst, arith, length-take-le, length-append, append-nil, Option, Some, Err, IsUtf8}
+use Rattle.std.proofs.Common.{◌≡◌, ℕ, ◌<◌, ◌≤◌, List, [], ◌++◌, true, length, drop, sym, ap, ◌∙◌, subst, arith, length-take-le, length-append, Option, Some, Err, IsUtf8}
 use Rattle.std.proofs.lemmas.List.{length-map}
 use Rattle.std.proofs.lemmas.List.Elements.{All-weaker}
 use Rattle.std.proofs.lemmas.Bool.Decides.{nat_tests}
@@ -17,8 +17,8 @@ use Rattle.http_frame.specs.Heads.{HasNoHead, Shows}
 use Rattle.http_frame.specs.declared.fault.FrameFault.{FrameFault}
 use Rattle.http_frame.specs.declared.fault.FrameFault.TheVariants.{BadHead, BadHost, BadBody, BodyTooLong, Coding, Truncated, ReadFault, Memory}
 use Rattle.http_frame.specs.declared.message.Head.{Head}
-use Rattle.http_frame.proofs.StreamLemmas.{part_of_part}
 use Rattle.http_frame.specs.Streams.{IsStream}
+use Rattle.http_frame.proofs.StreamLemmas.{at_end}
 
 -- the parser counts the fields of the head
 pub count_is : (buf : List ℕ) (spans : List HeaderSpan) (r : RequestSpans) (h : RequestHead)
@@ -51,20 +51,7 @@ none_in_nothing b empty h rest x =
 pub none_at_end : (held b : List ℕ) (left : Option (List ℕ)) → HasNoHead held → ((rest : List ℕ) → left ≡ Some rest → rest ≡ [])
     → IsStream held left b → (b ≡ held) × HasNoHead b
 none_at_end held b left none end s =
-    let same : b ≡ held = s.2 ∙ ap (λ (x : List ℕ). held ++ x) (end s.0 s.1) ∙ append-nil held in
-    (same, subst HasNoHead (sym same) none)
-
--- as much is there as a head may have, and it has none
-pub none_in_most : (held b : List ℕ) (left : Option (List ℕ)) → HasNoHead held → 65536 ≤ length held
-    → IsStream held left b → (0 < length b) × HasNoHead b
-none_in_most held b left none most s =
-    let e = simp length-append at (ap length s.2) in (
-      omega arith,
-      λ h rest x.
-          let short = x.short in
-          let here = part_of_part held s.0 (print_request h) rest (sym s.2 ∙ x.reads.1) (omega arith) in
-          none h (drop (length (print_request h)) held) (record { reads = (x.reads.0, here); short = x.short; few = x.few }),
-    )
+    let same = at_end held b left end s in (same, subst HasNoHead (sym same) none)
 
 token_is_ascii : (b : ℕ) → is_token_byte b ≡ true → b < 128
 unfolding is_token_byte

@@ -1,11 +1,16 @@
 pub mod BodyLemmas
 pub mod ChunkLemmas
 pub mod ChunkedLemmas
+pub mod EndLemmas
 pub mod FieldLemmas
 pub mod FrameExamples
 pub mod FrameLemmas
 pub mod HeadLemmas
 pub mod LineLemmas
 pub mod PlaceLemmas
+pub mod RequestLemmas
+pub mod ResponseExamples
+pub mod ResponseLemmas
+pub mod StatusLemmas
 pub mod StreamLemmas
 pub mod TurnLemmas

@@ -47,6 +47,10 @@ pub empty_of : (xs : List ℕ) → length xs ≡ 0 → xs ≡ []
 empty_of [] e = refl
 empty_of (x ∷ xs) e = absurd (omega arith)
 
+-- the source has nothing left, and the stream is what is held
+pub at_end : (held b : List ℕ) (left : Option (List ℕ)) → ((rest : List ℕ) → left ≡ Some rest → rest ≡ []) → IsStream held left b → b ≡ held
+at_end held b left end s = s.2 ∙ ap (λ (x : List ℕ). held ++ x) (end s.0 s.1) ∙ append-nil held
+
 -- at the source's end the stream is what is held, and nothing came
 pub all_held : (held held' b : List ℕ) (left left' : Option (List ℕ)) (n : ℕ) → Fills held left held' left' n → n ≡ 0
     → IsStream held' left' b → (b ≡ held) × (b ≡ held')

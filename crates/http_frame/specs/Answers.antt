@@ -1,9 +1,10 @@
 -- The answers of a reader of frames. A fault of the source says which bytes were taken, and want of memory says nothing.
 use Rattle.std.specs.Prelude.{◌≡◌, ◌⊎◌, ℕ, List, [], ◌++◌, Some, None, Result, Ok, Err, Option}
-use Rattle.http_frame.specs.Bodies.{IsBody, IsBodyRefused}
+use Rattle.http_frame.specs.Bodies.{IsBodyWithin, IsRefusedWithin, IsBodyRefused}
 use Rattle.http_frame.specs.Frames.{BeginsWithHead, IsHeadRefused, IsFrame, nothing, request, refusal}
 use Rattle.http_frame.specs.Framing.{framing}
 use Rattle.http_frame.specs.Heads.{HasNoHead}
+use Rattle.http_frame.specs.Limits.{most_body}
 use Rattle.http_frame.specs.Messages.{SeenRequest}
 use Rattle.http_frame.specs.Streams.{IsStream}
 use Rattle.http_frame.specs.declared.fault.FrameFault.{FrameFault}
@@ -25,13 +26,17 @@ NextHead b held left (Err fault) = IsHeadRefused b fault
 abbrev pub IsTaken : List ℕ → List ℕ → Option (List ℕ) → Type 0
 IsTaken taken b left = (rest : List ℕ) × (left ≡ Some rest) × (b ≡ taken ++ rest)
 
--- the answer on a body that is so framed and stands at the front of b, and what is held and left after it
-abbrev pub TakesBody : Framing → List ℕ → List ℕ → Option (List ℕ) → Result (List ℕ) FrameFault → Type 0
-TakesBody framed_as b held left (Ok body) = (rest : List ℕ) × IsBody framed_as b body rest × IsStream held left rest
+-- the answer on a body of no more than the most bytes that is so framed and stands at the front of b, and what is held and left after it
+abbrev pub TakesWithin : ℕ → Framing → List ℕ → List ℕ → Option (List ℕ) → Result (List ℕ) FrameFault → Type 0
+TakesWithin most framed_as b held left (Ok body) = (rest : List ℕ) × IsBodyWithin most framed_as b body rest × IsStream held left rest
 -- what was taken ends inside the body
-TakesBody framed_as b held left (Err ReadFault) = (taken : List ℕ) × IsTaken taken b left × IsBodyRefused framed_as taken Truncated
-TakesBody framed_as b held left (Err Memory) = Unit {0}
-TakesBody framed_as b held left (Err fault) = IsBodyRefused framed_as b fault
+TakesWithin most framed_as b held left (Err ReadFault) = (taken : List ℕ) × IsTaken taken b left × IsRefusedWithin most framed_as taken Truncated
+TakesWithin most framed_as b held left (Err Memory) = Unit {0}
+TakesWithin most framed_as b held left (Err fault) = IsRefusedWithin most framed_as b fault
+
+-- the same of the body of a request
+abbrev pub TakesBody : Framing → List ℕ → List ℕ → Option (List ℕ) → Result (List ℕ) FrameFault → Type 0
+TakesBody framed_as b held left answer = TakesWithin most_body framed_as b held left answer
 
 -- the answer on the request of this head, where the stream b follows the head; a head that shows a fault is answered it
 abbrev pub NextBody : Head → List ℕ → List ℕ → Option (List ℕ) → Result SeenRequest FrameFault → Type 0

@@ -3,7 +3,7 @@ use Rattle.std.specs.Prelude.{◌≡◌, ℕ, ◌+◌, ◌*◌, ◌≤◌, ◌<�
 use Rattle.std.specs.List.{list_all}
 use Rattle.std.specs.Char.{digit_value, is_digit}
 use Rattle.httparse.specs.Ascii.{crlf_bytes}
-use Rattle.http_frame.specs.Limits.{most_body, most_digits, most_extension, most_trailers}
+use Rattle.http_frame.specs.Limits.{most_digits, most_extension, most_trailers}
 use Rattle.http_frame.specs.declared.fault.FrameFault.{FrameFault}
 use Rattle.http_frame.specs.declared.fault.FrameFault.TheVariants.{BadBody, BodyTooLong, Truncated}
 
@@ -67,8 +67,8 @@ BeginsChunked b = (more : List ℕ) × (body : List ℕ) × IsChunkedBody (b ++ 
 abbrev pub IsUnfinished : List ℕ → Type 0
 IsUnfinished b = (next : ℕ) × (more : List ℕ) × (body : List ℕ) × IsChunkedBody (b ++ next ∷ more) body
 
--- b has the line of a chunk whose size with the chunks before it is over the limit
-pub record HasLongChunk (b : List ℕ) : Type 0 where
+-- b has the line of a chunk whose size with the chunks before it is over the most that a body may have
+pub record HasLongChunk (most : ℕ) (b : List ℕ) : Type 0 where
   pub chunks : List ℕ
   pub body : List ℕ
   pub line : List ℕ
@@ -76,31 +76,31 @@ pub record HasLongChunk (b : List ℕ) : Type 0 where
   pub rest : List ℕ
   pub are_chunks : AreChunks chunks body
   pub is_line : IsChunkLine line size
-  pub long : most_body < length body + size
+  pub long : most < length body + size
   pub b_is : b ≡ chunks ++ (line ++ rest)
 
 -- b has a first byte with which the bytes so far begin no chunked body, and no chunk that is too long before it
-pub record BreaksChunks (b : List ℕ) : Type 0 where
+pub record BreaksChunks (most : ℕ) (b : List ℕ) : Type 0 where
   pub good : List ℕ
   pub bad : ℕ
   pub rest : List ℕ
   pub b_is : b ≡ good ++ bad ∷ rest
   pub unfinished : IsUnfinished good
   pub broken : ¬ (BeginsChunked (good ++ bad ∷ []))
-  pub not_long : ¬ (HasLongChunk good)
+  pub not_long : ¬ (HasLongChunk most good)
 
--- the chunked body at the front of b is this one, within the limit, and rest follows
-pub record IsChunkedAt (b body rest : List ℕ) : Type 0 where
+-- the chunked body at the front of b is this one, of no more than the most bytes, and rest follows
+pub record IsChunkedAt (most : ℕ) (b body rest : List ℕ) : Type 0 where
   pub bytes : List ℕ
   pub is_body : IsChunkedBody bytes body
-  pub short : length body ≤ most_body
+  pub short : length body ≤ most
   pub b_is : b ≡ bytes ++ rest
 
 -- b begins with no chunked body; the fault that stands first in it decides
-pub data IsChunkedRefused (b : List ℕ) (fault : FrameFault) : Type 0 where
+pub data IsChunkedRefused (most : ℕ) (b : List ℕ) (fault : FrameFault) : Type 0 where
   -- a chunk is too long, at the end of its line
-  long : fault ≡ BodyTooLong → HasLongChunk b → IsChunkedRefused b fault
+  long : fault ≡ BodyTooLong → HasLongChunk most b → IsChunkedRefused most b fault
   -- the grammar is broken, at the first byte that breaks it
-  broken : fault ≡ BadBody → BreaksChunks b → IsChunkedRefused b fault
+  broken : fault ≡ BadBody → BreaksChunks most b → IsChunkedRefused most b fault
   -- b ends inside the body
-  cut_off : fault ≡ Truncated → IsUnfinished b → ¬ (HasLongChunk b) → IsChunkedRefused b fault
+  cut_off : fault ≡ Truncated → IsUnfinished b → ¬ (HasLongChunk most b) → IsChunkedRefused most b fault

@@ -22,17 +22,17 @@ decimal_value ds = fold (λ n d. n * 10 + (d - 48)) 0 ds
 abbrev pub is_numeral : List ℕ → Bool
 is_numeral v = nat_lt 0 (length v) && list_all is_ascii_digit v
 
--- a body of the length that the digits write, where a body may be so long
-abbrev pub length_value : List ℕ → Result Framing FrameFault
-length_value v =
-    if is_numeral v then (if nat_le (decimal_value v) most_body then Ok (Length (decimal_value v)) else Err BodyTooLong)
+-- a body of the length that the digits write, where a body may have so many bytes
+abbrev pub length_value : ℕ → List ℕ → Result Framing FrameFault
+length_value most v =
+    if is_numeral v then (if nat_le (decimal_value v) most then Ok (Length (decimal_value v)) else Err BodyTooLong)
     else Err BadBody
 
 -- what the values of Content-Length say: there is none, one or more
-abbrev pub length_of : List (List ℕ) → Result Framing FrameFault
-length_of [] = Ok (Length 0)
-length_of (v ∷ []) = length_value v
-length_of (v ∷ w ∷ vs) = Err BadBody
+abbrev pub length_of : ℕ → List (List ℕ) → Result Framing FrameFault
+length_of most [] = Ok (Length 0)
+length_of most (v ∷ []) = length_value most v
+length_of most (v ∷ w ∷ vs) = Err BadBody
 
 -- what a transfer coding says, in a message of this version with these values of Content-Length
 abbrev pub coded : ℕ → List (List ℕ) → Bool → Result Framing FrameFault
@@ -41,17 +41,18 @@ coded minor lengths chunked =
     else if chunked then Ok Chunked
     else Err Coding
 
--- what the values of Transfer-Encoding and of Content-Length say in a message of this version; one field with `chunked` is read
-abbrev pub framed_by : ℕ → List (List ℕ) → List (List ℕ) → Result Framing FrameFault
-framed_by minor [] lengths = length_of lengths
-framed_by minor (c ∷ []) lengths = coded minor lengths (same_name c (codes "chunked"))
-framed_by minor (c ∷ d ∷ cs) lengths = coded minor lengths false
+-- what the values of Transfer-Encoding and of Content-Length say in a message of this version whose body may have this many bytes;
+-- one field with `chunked` is read
+abbrev pub framed_by : ℕ → ℕ → List (List ℕ) → List (List ℕ) → Result Framing FrameFault
+framed_by most minor [] lengths = length_of most lengths
+framed_by most minor (c ∷ []) lengths = coded minor lengths (same_name c (codes "chunked"))
+framed_by most minor (c ∷ d ∷ cs) lengths = coded minor lengths false
 
--- how the body behind a head of this version with these fields is framed, or the first fault that the head shows
+-- how the body behind the head of a request of this version with these fields is framed, or the first fault that the head shows
 abbrev pub framing_of : ℕ → List (List ℕ × List ℕ) → Result Framing FrameFault
 framing_of minor fields =
     if lacks_host minor fields then Err BadHost
-    else framed_by minor (values_of (codes "transfer-encoding") fields) (values_of (codes "content-length") fields)
+    else framed_by most_body minor (values_of (codes "transfer-encoding") fields) (values_of (codes "content-length") fields)
 
 -- the same of a head
 abbrev pub framing : Head → Result Framing FrameFault

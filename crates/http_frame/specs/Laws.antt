@@ -1,8 +1,12 @@
--- A stream has one frame: it is empty, or begins with one request, or is refused with one fault.
-use Rattle.std.specs.Prelude.{◌≡◌, ℕ, List, ◌++◌, Option, Some, None, Result, Ok, Err}
+-- A stream has one frame: it is empty, or begins with one request or response, or is refused with one fault. What is written of a
+-- request is read as that one.
+use Rattle.std.specs.Prelude.{◌≡◌, ℕ, Bool, false, List, [], ◌++◌, codes, Option, Some, None, Result, Ok, Err}
 use Rattle.http_frame.specs.Answers.{NextHead, NextBody, NextFrame}
-use Rattle.http_frame.specs.Frames.{IsRequest, Frame, IsFrame}
+use Rattle.http_frame.specs.Fields.{values_of}
+use Rattle.http_frame.specs.Frames.{IsRequest, Frame, request, IsFrame}
 use Rattle.http_frame.specs.Messages.{SeenRequest}
+use Rattle.http_frame.specs.RequestWire.{request_wire, IsSpelled, KeepsLimits}
+use Rattle.http_frame.specs.Responses.{ResponseFrame, response, IsResponseFrame}
 use Rattle.http_frame.specs.Streams.{IsStream}
 use Rattle.http_frame.specs.declared.fault.FrameFault.{FrameFault}
 use Rattle.http_frame.specs.declared.message.Head.{Head}
@@ -31,3 +35,16 @@ abbrev pub BodyIsFrame : Type 0
 BodyIsFrame = (b held held' : List ℕ) (left left' : Option (List ℕ)) (head : Head) (answer : Result SeenRequest FrameFault)
     → NextHead b held left (Ok (Some head)) → ((mid : List ℕ) → IsStream held left mid → NextBody head mid held' left' answer)
     → NextFrame b held' left' (answer_behind answer)
+
+-- a stream of responses has one frame
+abbrev pub OneResponseFrame : Type 0
+OneResponseFrame = (b : List ℕ) (x y : ResponseFrame) → IsResponseFrame b x → IsResponseFrame b y → x ≡ y
+
+-- what is written of a request that some bytes spell is read as that request, where it keeps the limits, and nothing is left
+abbrev pub WrittenIsFrame : Type 0
+WrittenIsFrame = (r : SeenRequest) → IsSpelled r → KeepsLimits r → IsFrame (request_wire r) (request r [])
+
+-- each request that is read is spelled, unless it has a transfer coding
+abbrev pub ReadIsSpelled : Type 0
+ReadIsSpelled = (b : List ℕ) (r : SeenRequest) (rest : List ℕ) → IsRequest b r rest → values_of (codes "transfer-encoding") r.head.fields ≡ []
+    → IsSpelled r

@@ -9,9 +9,17 @@ most_head = 65536
 abbrev pub most_fields : ℕ
 most_fields = 128
 
--- the most bytes of a body
+-- the most bytes of the body of a request
 abbrev pub most_body : ℕ
 most_body = 16777216
+
+-- the most bytes of the body of a response
+abbrev pub most_response : ℕ
+most_response = 536870912
+
+-- the most informational responses that are passed over before another one
+abbrev pub most_informational : ℕ
+most_informational = 16
 
 -- the most digits of a chunk's size
 abbrev pub most_digits : ℕ

@@ -1,7 +1,8 @@
--- The steps of the search for a head. No contract of a public call cites them.
+-- The steps of the search for the head of a request. No contract of a public call cites them.
 use Rattle.std.specs.Prelude.{◌≡◌, ℕ, ◌≤◌, ◌<◌, ◌==◌, ◌||◌, Bool, true, false, List, [], ◌∷◌, ◌++◌, length, fold, Option, Some, None, if◌then◌else◌}
 use Rattle.httparse.specs.Spans.{IsRequestWithin, IsRequestOf}
 use Rattle.httparse.specs.declared.spans.HeaderSpan.{HeaderSpan}
+use Rattle.httparse.specs.declared.spans.RequestSpans.{RequestSpans}
 use Rattle.http_frame.specs.Heads.{HasNoHead}
 use Rattle.http_frame.specs.Limits.{most_head, most_fields}
 use Rattle.http_frame.specs.Streams.{IsStream}
@@ -52,7 +53,7 @@ IsScan mark line bytes None = has_mark mark line bytes ≡ true
 IsScan mark line bytes (Some behind) = (has_mark mark line bytes ≡ false) × (behind ≡ line_behind line bytes)
 
 -- what a look at the bytes that are there says of each stream that begins with them
-abbrev pub IsFront : List ℕ → List HeaderSpan → Front → Type 0
+abbrev pub IsFront : List ℕ → List HeaderSpan → Front RequestSpans → Type 0
 IsFront buf spans (FrontHead r) = IsRequestOf buf spans r × IsRequestWithin buf spans r × (r.headers ≤ most_fields)
 IsFront buf spans Open = HasNoHead buf
 IsFront buf spans Bad = (0 < length buf) × ((more : List ℕ) → HasNoHead (buf ++ more))
@@ -64,12 +65,12 @@ Waits mark held left Full = (has_mark mark Blank held ≡ false) × (most_head �
 Waits mark held left Ended = (has_mark mark Blank held ≡ false) × ((rest : List ℕ) → left ≡ Some rest → rest ≡ [])
 
 -- how the search for a head ended, where the stream is held and then left
-abbrev pub IsSearch : List ℕ → Option (List ℕ) → List HeaderSpan → Search → Type 0
+abbrev pub IsSearch : List ℕ → Option (List ℕ) → List HeaderSpan → Search RequestSpans → Type 0
 IsSearch held left spans (Found r) = IsFront held spans (FrontHead r)
 IsSearch held left spans SearchEnd = (b : List ℕ) → IsStream held left b → b ≡ []
 IsSearch held left spans SearchBad = (b : List ℕ) → IsStream held left b → (0 < length b) × HasNoHead b
 
 -- how the search at a mark ended; it goes on where the mark is there, and no head
-abbrev pub IsSearchAt : Mark → List ℕ → Option (List ℕ) → List HeaderSpan → Option Search → Type 0
+abbrev pub IsSearchAt : Mark → List ℕ → Option (List ℕ) → List HeaderSpan → Option (Search RequestSpans) → Type 0
 IsSearchAt mark held left spans (Some search) = IsSearch held left spans search
 IsSearchAt mark held left spans None = (has_mark mark Blank held ≡ true) × HasNoHead held

@@ -1,7 +1,7 @@
 //! Chunked bodies.
 ghost use Rattle.std.specs.Prelude.{◌≡◌, ℕ, ◌≤◌, ◌<◌, ◌∷◌, List, [], length, Some, true, false, IfOk, OnErr, IsOk};
 ghost use Rattle.rdf_io.specs.Causes.{HasCause};
-ghost use Rattle.http_frame.specs.Answers.{TakesBody};
+ghost use Rattle.http_frame.specs.Answers.{TakesWithin};
 ghost use Rattle.http_frame.specs.Faults.{FaultsFor, SoundFor};
 ghost use Rattle.http_frame.specs.Places.{step, IsPlace, IsStep, IsTurn, behind_data};
 ghost use Rattle.http_frame.specs.Streams.{IsStream, KeepsStream, Holds};
@@ -12,12 +12,11 @@ use crate::buffer::Buffer;
 use crate::chunk::{Place, Step, next_step};
 use crate::fault::FrameFault;
 use crate::fields::Octets;
-use crate::limits::MOST_BODY;
 use rdf_io::{Failed, Source};
 use std::alloc::{AllocError, Global};
 
 /// Sees that a byte is held, or answers that the stream has ended.
-fn hold<S: Source>(buffer: &mut Buffer, source: &mut S) -> Result<bool, Failed>
+pub fn hold<S: Source>(buffer: &mut Buffer, source: &mut S) -> Result<bool, Failed>
     ensures stream { KeepsStream buffer.old (S.left source.old) buffer.new (S.left source.new) }
     ensures some { IfOk result (Holds buffer.new (S.left source.new)) }
     ensures none { OnErr result (buffer.new ≡ []) }
@@ -91,21 +90,22 @@ fn turn(
     }
 }
 
-/// Takes a chunked body off the stream. It costs one pass over its bytes and one copy of those that the
+/// Takes a chunked body of no more than `most` bytes off the stream. It costs one pass over its bytes and one copy of those that the
 /// chunks carry, however they come.
 pub fn take_chunked<S: Source>(
     alloc: Global,
     buffer: &mut Buffer,
     source: &mut S,
+    most: usize,
 ) -> Result<Octets, FrameFault>
     ensures body { (b : List ℕ) → IsStream buffer.old (S.left source.old) b
-        → TakesBody Chunked b buffer.new (S.left source.new) result }
+        → TakesWithin most Chunked b buffer.new (S.left source.new) result }
     ensures cause { FaultsFor (S.faults source.old) (S.faults source.new) result }
     ensures sound { SoundFor (S.sound source.old) (S.sound source.new) result }
 {
     let mut body = Vec::new(alloc);
     let mut place = Place::Size(0, 0);
-    let mut room = MOST_BODY;
+    let mut room = most;
     'read: loop {
         match hold(buffer, source) {
             Ok(true) => {}

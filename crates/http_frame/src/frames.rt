@@ -2,17 +2,18 @@ ghost use Rattle.std.specs.Prelude.{◌≡◌, ◌≢◌, ℕ, List, [], length,
 ghost use Rattle.http_frame.specs.State.{FramesState};
 ghost use Rattle.http_frame.specs.Faults.{FaultsFor, SoundFor};
 ghost use Rattle.http_frame.specs.Streams.{IsStream};
-ghost use Rattle.http_frame.specs.Answers.{NextHead, TakesBody, NextBody};
+ghost use Rattle.http_frame.specs.Answers.{NextHead, NextBody};
+ghost use Rattle.http_frame.specs.ResponseAnswers.{NextResponse};
 ghost use Rattle.http_frame.specs.declared.fault.FrameFault.TheVariants.{ReadFault};
 
+use crate::body::take_body;
 use crate::buffer::Buffer;
-use crate::chunked_body::take_chunked;
 use crate::fault::FrameFault;
-use crate::fields::Octets;
-use crate::framing::{Framing, framing_of};
+use crate::framing::framing_of;
 use crate::head::cut_head;
-use crate::length_body::take_length;
-use crate::message::{Head, Request};
+use crate::limits::MOST_BODY;
+use crate::message::{Head, Request, Response};
+use crate::response::cut_response;
 use crate::search::FIELD_ROOM;
 use httparse::spans::{EMPTY_HEADER_SPAN, HeaderSpan};
 use rdf_io::Source;
@@ -20,7 +21,7 @@ use rdf_term::{Bytes, Memory};
 use std::alloc::Global;
 use std::marker::Model;
 
-/// A reader of requests. Contracts see the bytes that it holds, which stand before those that the source
+/// A reader of requests, or of responses. Contracts see the bytes that it holds, which stand before those that the source
 /// has left, and the fault that it has answered.
 ///
 /// After a head a caller reads its body before the next head. After a fault every later call answers that
@@ -41,24 +42,6 @@ impl Model for Frames {
     ghost invariant = { λ s. length s.spans.items ≡ 1024 };
 }
 
-/// Takes a body off the stream.
-fn take_body<S: Source>(
-    alloc: Global,
-    buffer: &mut Buffer,
-    source: &mut S,
-    framing: Framing,
-) -> Result<Octets, FrameFault>
-    ensures body { (b : List ℕ) → IsStream buffer.old (S.left source.old) b
-        → TakesBody framing b buffer.new (S.left source.new) result }
-    ensures cause { FaultsFor (S.faults source.old) (S.faults source.new) result }
-    ensures sound { SoundFor (S.sound source.old) (S.sound source.new) result }
-{
-    match framing {
-        Framing::Length(count) => take_length(alloc, buffer, source, count),
-        Framing::Chunked => take_chunked(alloc, buffer, source),
-    }
-}
-
 /// Reads the body behind a head.
 fn cut_body<S: Source>(
     alloc: Global,
@@ -73,7 +56,7 @@ fn cut_body<S: Source>(
 {
     match framing_of(head.minor, &head.fields) {
         Err(shown) => Err(shown),
-        Ok(framing) => match take_body(alloc, buffer, source, framing) {
+        Ok(framing) => match take_body(alloc, buffer, source, framing, MOST_BODY) {
             Ok(body) => Ok(Request {
                 head,
                 body: Bytes::from_vec(body.into_vec()),
@@ -150,6 +133,39 @@ impl Frames {
         }
         match cut_body(self.alloc, &mut self.buffer, head, source) {
             Ok(request) => Ok(request),
+            Err(refused) => {
+                self.fault = Some(refused);
+                Err(refused)
+            }
+        }
+    }
+
+    /// Cuts the next response off the stream. At most 16 informational responses (RFC 9110, section 15.2)
+    /// are passed over before it. `None` means that the stream ended, with no byte of a further response.
+    ///
+    /// A response whose head says nothing of its body has all that follows as its body, up to the end of
+    /// the stream.
+    pub fn next_response<S: Source>(
+        &mut self,
+        source: &mut S,
+    ) -> Result<Option<Response>, FrameFault>
+        ensures response { self.old.fault ≡ None → (b : List ℕ) → IsStream self.old.held (S.left source.old) b
+            → NextResponse b self.new.held (S.left source.new) result }
+        ensures cause { self.old.fault ≡ None → FaultsFor (S.faults source.old) (S.faults source.new) result }
+        ensures sound { S.sound source.old → S.sound source.new }
+        ensures no_fault { self.old.fault ≡ None → S.sound source.old → result ≢ Err ReadFault }
+
+        // A fault is kept, and is answered again at every later call.
+        ensures kept { OnOk result (self.new.fault ≡ None) }
+        ensures fault { IfErr result (λ f. self.new.fault ≡ Some f) }
+        ensures again { IfSome self.old.fault (λ f. (result ≡ Err f) × (S.faults source.new ≡ S.faults source.old)) }
+        ensures unread { IfSome self.old.fault (λ f. S.left source.new ≡ S.left source.old) }
+    {
+        if let Some(fault) = self.fault {
+            return Err(fault);
+        }
+        match cut_response(self.alloc, &mut self.buffer, &mut self.spans, source) {
+            Ok(response) => Ok(response),
             Err(refused) => {
                 self.fault = Some(refused);
                 Err(refused)

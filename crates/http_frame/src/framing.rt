@@ -5,11 +5,11 @@ ghost use Rattle.std.specs.Char.{is_ascii_digit};
 ghost use Rattle.http_frame.specs.Faults.{IsShown};
 ghost use Rattle.http_frame.specs.Fields.{same_name, values_of};
 ghost use Rattle.http_frame.specs.Framing.{lacks_host, decimal_value, is_numeral, length_value, length_of, coded, framed_by, framing_of, has_body, expects};
-ghost use Rattle.http_frame.specs.Limits.{most_body};
+ghost use Rattle.http_frame.specs.Limits.{most_response};
 
 use crate::fault::FrameFault;
 use crate::fields::{Fields, Octets, Values, count_named, has_option, same_name, values_named};
-use crate::limits::MOST_BODY;
+use crate::limits::{MOST_BODY, MOST_RESPONSE};
 
 /// How a body is framed.
 #[derive(Clone, Copy, Debug, PartialEq, Eq, Drop)]
@@ -20,14 +20,14 @@ pub enum Framing {
     Chunked,
 }
 
-/// The number with one more digit, until it is over the most.
+/// The number with one more digit, until it is over the most that a body may have.
 fn with_digit(number: usize, digit: u8) -> usize
-    requires { number ≤ most_body * 10 + 255 }
-    ensures within { number ≤ most_body → result ≡ number * 10 + (digit - 48) }
-    ensures over { most_body < number → result ≡ number }
-    ensures room { result ≤ most_body * 10 + 255 }
+    requires { number ≤ most_response * 10 + 255 }
+    ensures within { number ≤ most_response → result ≡ number * 10 + (digit - 48) }
+    ensures over { most_response < number → result ≡ number }
+    ensures room { result ≤ most_response * 10 + 255 }
 {
-    if number <= MOST_BODY {
+    if number <= MOST_RESPONSE {
         number * 10 + (digit as usize).saturating_sub(48)
     } else {
         number
@@ -35,8 +35,8 @@ fn with_digit(number: usize, digit: u8) -> usize
 }
 
 fn number_of(value: &[u8]) -> usize
-    ensures within { result ≤ most_body → result ≡ decimal_value value.now }
-    ensures over { most_body < result → most_body < decimal_value value.now }
+    ensures within { result ≤ most_response → result ≡ decimal_value value.now }
+    ensures over { most_response < result → most_response < decimal_value value.now }
 {
     let mut number = 0;
     for digit in value {
@@ -57,15 +57,16 @@ fn is_numeral(value: &[u8]) -> bool
     value.len() > 0 && all_digits(value)
 }
 
-fn length_value(value: &[u8]) -> Result<Framing, FrameFault>
-    ensures framing { result ≡ length_value value.now }
+fn length_value(value: &[u8], most: usize) -> Result<Framing, FrameFault>
+    requires { most ≤ most_response }
+    ensures framing { result ≡ length_value most value.now }
     ensures shown { IfErr result IsShown }
 {
     if !is_numeral(value) {
         return Err(FrameFault::BadBody);
     }
     let number = number_of(value);
-    if number <= MOST_BODY {
+    if number <= most {
         Ok(Framing::Length(number))
     } else {
         Err(FrameFault::BodyTooLong)
@@ -73,13 +74,14 @@ fn length_value(value: &[u8]) -> Result<Framing, FrameFault>
 }
 
 /// What Content-Length says.
-fn length_of(fields: &[(Octets, Octets)]) -> Result<Framing, FrameFault>
-    ensures framing { result ≡ length_of (values_of (codes "content-length") fields.now) }
+fn length_of(fields: &[(Octets, Octets)], most: usize) -> Result<Framing, FrameFault>
+    requires { most ≤ most_response }
+    ensures framing { result ≡ length_of most (values_of (codes "content-length") fields.now) }
     ensures shown { IfErr result IsShown }
 {
     match values_named(fields, b"content-length") {
         Values::None => Ok(Framing::Length(0)),
-        Values::One(value) => length_value(value),
+        Values::One(value) => length_value(value, most),
         Values::More => Err(FrameFault::BadBody),
     }
 }
@@ -105,13 +107,14 @@ fn coded(minor: u8, fields: &[(Octets, Octets)], chunked: bool) -> Result<Framin
     }
 }
 
-/// What Transfer-Encoding and Content-Length say.
-fn framed_by(minor: u8, fields: &[(Octets, Octets)]) -> Result<Framing, FrameFault>
-    ensures framing { result ≡ framed_by minor (values_of (codes "transfer-encoding") fields.now) (values_of (codes "content-length") fields.now) }
+/// What Transfer-Encoding and Content-Length say of a body that may have `most` bytes.
+pub fn framed_by(minor: u8, fields: &[(Octets, Octets)], most: usize) -> Result<Framing, FrameFault>
+    requires { most ≤ most_response }
+    ensures framing { result ≡ framed_by most minor (values_of (codes "transfer-encoding") fields.now) (values_of (codes "content-length") fields.now) }
     ensures shown { IfErr result IsShown }
 {
     match values_named(fields, b"transfer-encoding") {
-        Values::None => length_of(fields),
+        Values::None => length_of(fields, most),
         Values::One(coding) => coded(minor, fields, is_chunked(coding)),
         Values::More => coded(minor, fields, false),
     }
@@ -133,7 +136,7 @@ pub fn framing_of(minor: u8, fields: &Fields) -> Result<Framing, FrameFault>
     if lacks_host(minor, fields) {
         return Err(FrameFault::BadHost);
     }
-    framed_by(minor, fields)
+    framed_by(minor, fields, MOST_BODY)
 }
 
 fn has_body(framing: Result<Framing, FrameFault>) -> bool

@@ -40,7 +40,7 @@ fn text(alloc: Global, bytes: &[u8]) -> Result<Text, Memory>
 }
 
 /// The fields that the first spans cover.
-fn fields_of(
+pub fn fields_of(
     alloc: Global,
     buf: &[u8],
     spans: &[HeaderSpan],

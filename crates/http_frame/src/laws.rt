@@ -1,4 +1,4 @@
-ghost use Rattle.http_frame.specs.Laws.{OneFrame, StaysRequest, HeadIsFrame, BodyIsFrame};
+ghost use Rattle.http_frame.specs.Laws.{OneFrame, StaysRequest, HeadIsFrame, BodyIsFrame, OneResponseFrame, WrittenIsFrame, ReadIsSpelled};
 
 /// What stands at the front of a stream is determined by its bytes, and a request by its own bytes
 /// alone. So what an answer of [`Frames`](crate::Frames) means, as its clauses say, is when it comes.
@@ -12,4 +12,18 @@ pub fn frames_are_determined()
 pub fn heads_and_bodies_are_frames()
     ensures head { HeadIsFrame }
     ensures body { BodyIsFrame }
+{}
+
+/// What stands at the front of a stream of responses is determined by its bytes. So what an answer of
+/// [`next_response`](crate::Frames::next_response) means, as its clauses say, is when it comes.
+pub fn response_frames_are_determined()
+    ensures { OneResponseFrame }
+{}
+
+/// What [`write_request`](crate::write_request) writes of a request is read as that request, and nothing
+/// is left. This holds of each request that was read, unless it has a transfer coding, and of each other
+/// one that some head spells, where its bytes keep the limits.
+pub fn written_requests_are_frames()
+    ensures frame { WrittenIsFrame }
+    ensures spelled { ReadIsSpelled }
 {}

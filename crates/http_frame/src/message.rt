@@ -20,6 +20,17 @@ pub struct Head {
     pub closes: bool,
 }
 
+/// The head of a response. Contracts see it as it is.
+#[derive(Drop)]
+pub struct StatusHead {
+    /// The status code.
+    pub status: u16,
+    /// The minor version: 0 for HTTP/1.0, 1 for HTTP/1.1.
+    pub minor: u8,
+    /// The fields in the order of the head.
+    pub fields: Fields,
+}
+
 /// A request with its whole body. Contracts see the body's bytes, and not its room.
 #[derive(Drop)]
 pub struct Request {
@@ -40,7 +51,8 @@ impl Model for Request {
 pub struct Response {
     /// The status code.
     pub status: u16,
-    /// The fields that are written besides those of the framing, in order.
+    /// The fields in order: of a response that was read all of its head, and of one that is written those
+    /// that stand before the fields of the framing.
     pub fields: Fields,
     pub body: Bytes,
 }

@@ -1,4 +1,4 @@
-//! The search for the head of a request.
+//! The search for a head, and the head of a request.
 ghost use Rattle.std.specs.Prelude.{◌≡◌, ℕ, ◌≤◌, ◌<◌, List, length, IfOk, OnErr, IsOk, false};
 ghost use Rattle.rdf_io.specs.Causes.{HasCause};
 ghost use Rattle.http_frame.specs.Heads.{HasNoHead};
@@ -19,9 +19,9 @@ pub const FIELD_ROOM: usize = 1024;
 
 /// What stands at the front of the bytes that are there.
 #[derive(Clone, Copy)]
-pub enum Front {
+pub enum Front<H> {
     /// A head within the limits.
-    Head(RequestSpans),
+    Head(H),
     /// No head so far.
     Open,
     /// No head, whatever follows.
@@ -41,9 +41,9 @@ pub enum Wait {
 
 /// How the search for a head ended.
 #[derive(Clone, Copy)]
-pub enum Search {
+pub enum Search<H> {
     /// At a head.
-    Found(RequestSpans),
+    Found(H),
     /// At the end of the stream.
     End,
     /// At bytes that begin no head.
@@ -51,7 +51,7 @@ pub enum Search {
 }
 
 /// Looks for a head in the bytes that are there.
-fn look(buf: &[u8], spans: &mut [HeaderSpan]) -> Front
+fn look(buf: &[u8], spans: &mut [HeaderSpan]) -> Front<RequestSpans>
     requires { length spans.old ≡ 1024 }
     ensures { IsFront buf.now spans.new result }
 {
@@ -73,7 +73,11 @@ fn look(buf: &[u8], spans: &mut [HeaderSpan]) -> Front
 
 /// Takes bytes of the source until a mark came, the buffer is full or the source ended. Each byte is
 /// followed once.
-fn await_mark<S: Source>(buffer: &mut Buffer, source: &mut S, mark: Mark) -> Result<Wait, Failed>
+pub fn await_mark<S: Source>(
+    buffer: &mut Buffer,
+    source: &mut S,
+    mark: Mark,
+) -> Result<Wait, Failed>
     ensures stream { KeepsStream buffer.old (S.left source.old) buffer.new (S.left source.new) }
     ensures wait { IfOk result (Waits mark buffer.new (S.left source.new)) }
     ensures none { OnErr result (has_mark mark Blank buffer.new ≡ false) }
@@ -108,7 +112,7 @@ fn search_at<S: Source>(
     spans: &mut [HeaderSpan],
     source: &mut S,
     mark: Mark,
-) -> Result<Option<Search>, Failed>
+) -> Result<Option<Search<RequestSpans>>, Failed>
     requires { length spans.old ≡ 1024 }
     ensures stream { KeepsStream buffer.old (S.left source.old) buffer.new (S.left source.new) }
     ensures search { IfOk result (IsSearchAt mark buffer.new (S.left source.new) spans.new) }
@@ -140,7 +144,7 @@ pub fn find_head<S: Source>(
     buffer: &mut Buffer,
     spans: &mut [HeaderSpan],
     source: &mut S,
-) -> Result<Search, Failed>
+) -> Result<Search<RequestSpans>, Failed>
     requires { length spans.old ≡ 1024 }
     ensures stream { KeepsStream buffer.old (S.left source.old) buffer.new (S.left source.new) }
     ensures search { IfOk result (IsSearch buffer.new (S.left source.new) spans.new) }

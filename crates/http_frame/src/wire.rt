@@ -30,7 +30,7 @@ fn reason(status: u16) -> &'static [u8]
     }
 }
 
-fn put_number(number: u64, out: &mut Bytes) -> Result<(), Memory>
+pub fn put_number(number: u64, out: &mut Bytes) -> Result<(), Memory>
     ensures { Appends result out.old.items out.new.items (decimal number) }
 {
     out.append_decimal(number)
@@ -55,7 +55,7 @@ fn put_field(field: &(Octets, Octets), out: &mut Bytes) -> Result<(), Memory>
     out.append(b"\r\n")
 }
 
-fn put_fields(fields: &Fields, out: &mut Bytes) -> Result<(), Memory>
+pub fn put_fields(fields: &Fields, out: &mut Bytes) -> Result<(), Memory>
     ensures { Appends result out.old.items out.new.items (field_lines fields.now) }
 {
     for field in fields.as_slice() {

@@ -10,7 +10,7 @@ decreases-read g l = bytes_left l.place l.room
 abbrev pub invariant-read : goal.invariant-read
 invariant-read g l = record {
   stream : (b : List ℕ) → IsStream l.initial.buffer (g.S.Source.left l.initial.source) b
-      → Reads b l.buffer (g.S.Source.left l.source) l.body.items l.place l.room;
+      → Reads l.fn.most b l.buffer (g.S.Source.left l.source) l.body.items l.place l.room;
   place : IsPlace l.place;
   faults : g.S.Source.faults l.source ≡ g.S.Source.faults l.initial.source;
   sound : g.S.Source.sound l.initial.source → g.S.Source.sound l.source;

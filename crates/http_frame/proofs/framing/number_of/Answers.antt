@@ -6,12 +6,12 @@ use Rattle.http_frame.proofs.framing.number_of.Goals as goal
 digit_more : (xs : List ℕ) (i : ℕ) → i < length xs → decimal_value (take (i + 1) xs) ≡ decimal_value (take i xs) * 10 + (get_or xs i 0 - 48)
 digit_more xs i h = ap decimal_value (take_at_read xs i 0 h).1 ∙ fold-append (λ (n d : ℕ). n * 10 + (d - 48)) 0 (take i xs) (get_or xs i 0 ∷ [])
 
-within_more : (n m v v' d : ℕ) → (n ≤ 16777216 → n ≡ v) → (16777216 < n → 16777216 < v) → v' ≡ v * 10 + d
-    → (n ≤ 16777216 → m ≡ n * 10 + d) → (16777216 < n → m ≡ n) → m ≤ 16777216 → m ≡ v'
+within_more : (n m v v' d : ℕ) → (n ≤ 536870912 → n ≡ v) → (536870912 < n → 536870912 < v) → v' ≡ v * 10 + d
+    → (n ≤ 536870912 → m ≡ n * 10 + d) → (536870912 < n → m ≡ n) → m ≤ 536870912 → m ≡ v'
 within_more n m v v' d a b e f h k = grind arith
 
-over_more : (n m v v' d : ℕ) → (n ≤ 16777216 → n ≡ v) → (16777216 < n → 16777216 < v) → v' ≡ v * 10 + d
-    → (n ≤ 16777216 → m ≡ n * 10 + d) → (16777216 < n → m ≡ n) → 16777216 < m → 16777216 < v'
+over_more : (n m v v' d : ℕ) → (n ≤ 536870912 → n ≡ v) → (536870912 < n → 536870912 < v) → v' ≡ v * 10 + d
+    → (n ≤ 536870912 → m ≡ n * 10 + d) → (536870912 < n → m ≡ n) → 536870912 < m → 536870912 < v'
 over_more n m v v' d a b e f h k = grind arith
 
 pub loop-digit-preserved : goal.loop-digit-preserved

@@ -4,7 +4,7 @@ use Rattle.http_frame.proofs.framing.number_of.Given as goal
 
 abbrev pub invariant-loop-digit : goal.invariant-loop-digit
 invariant-loop-digit l = record {
-  within : l.number ≤ 16777216 → l.number ≡ decimal_value (take l.digit-index l.value);
-  over : 16777216 < l.number → 16777216 < decimal_value (take l.digit-index l.value);
-  room : l.number ≤ 16777216 * 10 + 255;
+  within : l.number ≤ 536870912 → l.number ≡ decimal_value (take l.digit-index l.value);
+  over : 536870912 < l.number → 536870912 < decimal_value (take l.digit-index l.value);
+  room : l.number ≤ 536870912 * 10 + 255;
 }

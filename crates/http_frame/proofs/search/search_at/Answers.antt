@@ -1,6 +1,6 @@
 use Rattle.std.proofs.Common.{length, ap, arith}
-use Rattle.http_frame.proofs.HeadLemmas.{none_at_end, none_in_most}
-use Rattle.http_frame.proofs.LineLemmas.{unmarked}
+use Rattle.http_frame.proofs.HeadLemmas.{none_at_end}
+use Rattle.http_frame.proofs.LineLemmas.{unmarked, none_in_most}
 use Rattle.http_frame.proofs.search.search_at.Goals as goal
 
 pub returns-in-Ok-Full-clause-search : goal.returns-in-Ok-Full-clause-search
