@@ -1,7 +1,8 @@
 -- One repository of a house went on.
-use Rattle.std.proofs.Common.{◌≡◌, ◌≢◌, ◌⊎◌, ℕ, zero, suc, ◌+◌, ◌≤◌, ◌<◌, ◌==◌, Bool, true, false, if◌then◌else◌, List, [], ◌∷◌, ◌++◌, length, map, slice_set, Some, Result, Ok, Err, IfOk, IfErr, OnOk, OnErr, slice_get, slice_index_or, refl, sym, ◌∙◌, ap, subst, inl, inr, append-nil, length-append, arith}
+use Rattle.std.proofs.Common.{◌≡◌, ◌≢◌, ◌⊎◌, ℕ, zero, suc, ◌+◌, ◌≤◌, ◌<◌, ◌==◌, Bool, true, false, ◌&&◌, nat_eq, if◌then◌else◌, List, [], ◌∷◌, ◌++◌, length, map, slice_set, None, Some, Result, Ok, Err, IfOk, IfErr, OnOk, OnErr, slice_get, slice_index_or, refl, sym, ◌∙◌, ap, subst, inl, inr, append-nil, length-append, arith}
 use Rattle.std.proofs.lemmas.Option.{same_Some, slice_get_read}
 use Rattle.std.proofs.lemmas.Bool.{cases_lt}
+use Rattle.std.proofs.lemmas.List.Folds.{list_all-append}
 use Rattle.std.proofs.lemmas.Bool.Decides.{nat_tests}
 use Rattle.journal.specs.declared.entry.Entry.{Entry}
 use Rattle.journal.specs.declared.fault.StoreFault.{StoreFault}
@@ -19,15 +20,18 @@ use Rattle.journal.specs.Journal.{entry_of, reply_at}
 use Rattle.iso_txn.specs.Repository.{IsFull, PinnedRead, Repository, with_entry}
 use Rattle.journal.specs.declared.level.Level.TheVariants.{ReadCommitted}
 use Rattle.repo_store.specs.Stores.{FirstStepIsNext, IsEntered, IsNextStep, answered}
-use Rattle.session.specs.Houses.{AreOf, MayStep, journal_at, journals_of, new_repo}
+use Rattle.session.specs.Houses.{AreOf, IsOwn, MayStep, journal_at, journals_of, new_repo}
 use Rattle.session.specs.Marks.{Goes}
 use Rattle.session.specs.Stores.{Adds, Fails, Replies, nothing_pinned}
 
 -- a new house
 
+own_none : (limits : Limits) → IsOwn limits []
+own_none limits = let none : 0 ≤ limits.places = omega arith in record { seats = refl; room = none }
+
 pub are_new : (limits : Limits) (names : List (List ℕ)) → AreOf limits names (map (new_repo limits) names)
 are_new limits [] = tt
-are_new limits (name ∷ names) = (refl, are_new limits names)
+are_new limits (name ∷ names) = (refl, own_none limits, are_new limits names)
 
 pub none_entered : (limits : Limits) (names : List (List ℕ)) (repo : ℕ) → journals_of (map (new_repo limits) names) repo ≡ []
 none_entered limits [] repo = refl
@@ -40,7 +44,7 @@ pub same_count : (limits : Limits) (names : List (List ℕ)) (repos : List Repos
 same_count limits [] [] h = refl
 same_count limits [] (r ∷ rs) h = absurd h
 same_count limits (n ∷ ns) [] h = absurd h
-same_count limits (n ∷ ns) (r ∷ rs) h = ap suc (same_count limits ns rs h.1)
+same_count limits (n ∷ ns) (r ∷ rs) h = ap suc (same_count limits ns rs h.2)
 
 pub limits_of : (limits : Limits) (names : List (List ℕ)) (repos : List Repository) (i : ℕ) (r : Repository) → AreOf limits names repos → slice_get repos i ≡ Some r
     → r.limits ≡ limits
@@ -48,15 +52,48 @@ limits_of limits [] [] i r h e = cc
 limits_of limits [] (x ∷ rs) i r h e = absurd h
 limits_of limits (n ∷ ns) [] i r h e = absurd h
 limits_of limits (n ∷ ns) (x ∷ rs) zero r h e = ap (λ (z : Repository). z.limits) (sym (same_Some x r e)) ∙ h.0
-limits_of limits (n ∷ ns) (x ∷ rs) (suc i) r h e = limits_of limits ns rs i r h.1 e
+limits_of limits (n ∷ ns) (x ∷ rs) (suc i) r h e = limits_of limits ns rs i r h.2 e
+
+none_there : (r : Repository) → None ≡ Some r → ⊥
+none_there r e = cc
+
+own_of : (limits : Limits) (names : List (List ℕ)) (repos : List Repository) (i : ℕ) (r : Repository) → AreOf limits names repos → slice_get repos i ≡ Some r
+    → IsOwn limits r.journal
+own_of limits [] [] i r h e = absurd (none_there r e)
+own_of limits [] (x ∷ rs) i r h e = absurd h
+own_of limits (n ∷ ns) [] i r h e = absurd h
+own_of limits (n ∷ ns) (x ∷ rs) zero r h e = subst (λ (z : Repository). IsOwn limits z.journal) (same_Some x r e) h.1
+own_of limits (n ∷ ns) (x ∷ rs) (suc i) r h e = own_of limits ns rs i r h.2 e
+
+-- a journal with one entry more of the caller
+own_more : (limits : Limits) (journal : List Entry) (op : Op) → IsOwn limits journal → length journal < limits.places → IsOwn limits (journal ++ entry_of 0 op ∷ [])
+own_more limits journal op own room = record {
+  seats = list_all-append (λ (e : Entry). nat_eq e.seat 0) journal (entry_of 0 op ∷ []) ∙ ap (λ (b : Bool). b && true) own.seats;
+  room = omega (arith, room, length-append journal (entry_of 0 op ∷ []));
+}
+
+own_entry : (limits : Limits) (r q : Repository) (op : Op) → IsOwn limits r.journal → q ≡ with_entry r (entry_of 0 op) → length r.journal < limits.places
+    → IsOwn limits q.journal
+own_entry limits r q op own e room = subst (λ (z : Repository). IsOwn limits z.journal) (sym e) (own_more limits r.journal op own room)
+
+own_still : (limits : Limits) (r q : Repository) → IsOwn limits r.journal → q ≡ r → IsOwn limits q.journal
+own_still limits r q own e = subst (λ (z : Repository). IsOwn limits z.journal) (sym e) own
+
+-- the journals of a house have no entry but the caller's own
+pub all_own : (limits : Limits) (names : List (List ℕ)) (repos : List Repository) → AreOf limits names repos → (repo : ℕ) → IsOwn limits (journals_of repos repo)
+all_own limits [] [] h repo = own_none limits
+all_own limits [] (r ∷ rs) h repo = absurd h
+all_own limits (n ∷ ns) [] h repo = absurd h
+all_own limits (n ∷ ns) (r ∷ rs) h zero = h.1
+all_own limits (n ∷ ns) (r ∷ rs) h (suc repo) = all_own limits ns rs h.2 repo
 
 pub set_of : (limits : Limits) (names : List (List ℕ)) (repos : List Repository) (i : ℕ) (q : Repository) → AreOf limits names repos → q.limits ≡ limits
-    → AreOf limits names (slice_set repos i q)
-set_of limits [] [] i q h e = tt
-set_of limits [] (x ∷ rs) i q h e = absurd h
-set_of limits (n ∷ ns) [] i q h e = absurd h
-set_of limits (n ∷ ns) (x ∷ rs) zero q h e = (e, h.1)
-set_of limits (n ∷ ns) (x ∷ rs) (suc i) q h e = (h.0, set_of limits ns rs i q h.1 e)
+    → IsOwn limits q.journal → AreOf limits names (slice_set repos i q)
+set_of limits [] [] i q h e own = tt
+set_of limits [] (x ∷ rs) i q h e own = absurd h
+set_of limits (n ∷ ns) [] i q h e own = absurd h
+set_of limits (n ∷ ns) (x ∷ rs) zero q h e own = (e, own, h.2)
+set_of limits (n ∷ ns) (x ∷ rs) (suc i) q h e own = (h.0, h.1, set_of limits ns rs i q h.2 e own)
 
 get_here : (rs : List Repository) (i : ℕ) (r q : Repository) → slice_get rs i ≡ Some r → slice_get (slice_set rs i q) i ≡ Some q
 get_here [] i r q a = cc
@@ -158,15 +195,18 @@ pub called_in : (limits : Limits) (names : List (List ℕ)) (rs : List Repositor
     → (IsFull r → result ≡ Err JournalFull) → (result ≡ Err JournalFull → IsFull r) → Called limits names rs i q op result
 called_in limits names rs i r q op (Ok it) h at e same full room =
     let kept = limits_of limits names rs i r h at in
+    let less = not_full r (Ok it) full it refl in
+    let most : limits.places ≡ r.limits.places = ap (λ (z : Limits). z.places) (sym kept) in
+    let own = own_entry limits r q op (own_of limits names rs i r h at) e.added (omega (arith, less, most)) in
     record {
-      are = set_of limits names rs i q h (ap (λ (z : Repository). z.limits) e.added ∙ kept);
-      made = entered_in limits rs i it.0 r q op it.1 at kept e (not_full r (Ok it) full it refl);
+      are = set_of limits names rs i q h (ap (λ (z : Repository). z.limits) e.added ∙ kept) own;
+      made = entered_in limits rs i it.0 r q op it.1 at kept e less;
       fault = tt;
     }
 called_in limits names rs i r q op (Err f) h at e same full room =
     let kept = limits_of limits names rs i r h at in
     record {
-      are = set_of limits names rs i q h (ap (λ (z : Repository). z.limits) same ∙ kept);
+      are = set_of limits names rs i q h (ap (λ (z : Repository). z.limits) same ∙ kept) (own_still limits r q (own_of limits names rs i r h at) same);
       made = tt;
       fault = fails_in limits rs i r q f at kept same (λ is. room (ap Err is));
     }
@@ -178,14 +218,17 @@ made_in : (limits : Limits) (names : List (List ℕ)) (rs : List Repository) (i 
 made_in limits names rs i place r q op h at here e room =
     let kept = limits_of limits names rs i r h at in
     let most : limits.places ≡ r.limits.places = ap (λ (z : Limits). z.places) (sym kept) in
-    (set_of limits names rs i q h (ap (λ (z : Repository). z.limits) e ∙ kept), adds_in limits rs i place r q op at kept e here (omega (arith, room, most)))
+    let less : length r.journal < limits.places = omega (arith, room, most) in (
+      set_of limits names rs i q h (ap (λ (z : Repository). z.limits) e ∙ kept) (own_entry limits r q op (own_of limits names rs i r h at) e less),
+      adds_in limits rs i place r q op at kept e here less,
+    )
 
 unmade_in : (limits : Limits) (names : List (List ℕ)) (rs : List Repository) (i : ℕ) (r q : Repository) (f : StoreFault) → AreOf limits names rs
     → slice_get rs i ≡ Some r → q ≡ r → (f ≡ JournalFull → IsFull r)
     → AreOf limits names (slice_set rs i q) × Fails limits (λ (repo : ℕ). 0) (journals_of rs) (journals_of (slice_set rs i q)) i f
 unmade_in limits names rs i r q f h at same full =
     let kept = limits_of limits names rs i r h at in
-    (set_of limits names rs i q h (ap (λ (z : Repository). z.limits) same ∙ kept), fails_in limits rs i r q f at kept same full)
+    (set_of limits names rs i q h (ap (λ (z : Repository). z.limits) same ∙ kept) (own_still limits r q (own_of limits names rs i r h at) same), fails_in limits rs i r q f at kept same full)
 
 reply_in : (limits : Limits) (names : List (List ℕ)) (rs : List Repository) (i place : ℕ) (r q : Repository) (op : Op) (x : Reply) → AreOf limits names rs
     → slice_get rs i ≡ Some r → q ≡ with_entry r (entry_of 0 op) → reply_at q.limits q.journal place ≡ Some x → Replies limits (journals_of (slice_set rs i q)) i place x

@@ -23,7 +23,7 @@ no_refusal one b fault none is = let e = one b nothing (refusal fault) none is i
 not_both : OneFrame → (b : List ℕ) (r : SeenRequest) (rest : List ℕ) (fault : FrameFault) → IsRequest b r rest → IsRefused b fault → ⊥
 not_both one b r rest fault is bad = let e = one b (request r rest) (refusal fault) is bad in cc
 
-same_request : OneFrame → (b : List ℕ) (r r' : SeenRequest) (rest rest' : List ℕ) → IsRequest b r rest → IsRequest b r' rest' → (r ≡ r') × (rest ≡ rest')
+pub same_request : OneFrame → (b : List ℕ) (r r' : SeenRequest) (rest rest' : List ℕ) → IsRequest b r rest → IsRequest b r' rest' → (r ≡ r') × (rest ≡ rest')
 same_request one b r r' rest rest' is is' = let e = one b (request r rest) (request r' rest') is is' in (cc, cc)
 
 -- The end behind so many turns, which neither a fault nor want of memory made
@@ -34,7 +34,7 @@ pub data Stop (closed : Bool) (n : ℕ) (rest : List ℕ) (end : SessionEnd) : T
   refusing : (fault : FrameFault) → end ≡ Refused → closed ≡ false → n < 100000 → IsRefused rest fault → Stop closed n rest end
   at_limit : end ≡ Limit → closed ≡ false → n ≡ 100000 → Stop closed n rest end
 
-stop_of : (turns : List Turn) (body : List ℕ) (closed : Bool) (rest : List ℕ) (left : Option (List ℕ)) (end : SessionEnd) (text : List ℕ) → IsTrue (is_sound end)
+pub stop_of : (turns : List Turn) (body : List ℕ) (closed : Bool) (rest : List ℕ) (left : Option (List ℕ)) (end : SessionEnd) (text : List ℕ) → IsTrue (is_sound end)
     → Ends turns body closed rest left end text → Stop closed (length turns) rest end
 stop_of turns body true rest left Done text s e = closing refl refl e.1
 stop_of turns body false rest left Done text s e = at_end refl refl e.1 e.2
@@ -46,14 +46,14 @@ stop_of turns body closed rest left ReadFault text s e = absurd (true≢false (s
 stop_of turns body closed rest left WriteFault text s e = absurd (true≢false (sym s))
 stop_of turns body closed rest left Memory text s e = absurd (true≢false (sym s))
 
-most : (closed : Bool) (n : ℕ) (rest : List ℕ) (end : SessionEnd) → Stop closed n rest end → n ≤ 100000
+pub most : (closed : Bool) (n : ℕ) (rest : List ℕ) (end : SessionEnd) → Stop closed n rest end → n ≤ 100000
 most closed n rest end (closing e c few) = few
 most closed n rest end (at_end e c few none) = omega (arith, few)
 most closed n rest end (refusing fault e c few bad) = omega (arith, few)
 most closed n rest end (at_limit e c full) = omega (arith, full)
 
 -- where a request follows, the session is not over
-goes_on : OneFrame → (n : ℕ) (b : List ℕ) (end : SessionEnd) (r : SeenRequest) (rest : List ℕ) → IsRequest b r rest → n < 100000 → Stop false n b end → ⊥
+pub goes_on : OneFrame → (n : ℕ) (b : List ℕ) (end : SessionEnd) (r : SeenRequest) (rest : List ℕ) → IsRequest b r rest → n < 100000 → Stop false n b end → ⊥
 goes_on one n b end r rest is few (closing e c f) = true≢false (sym c)
 goes_on one n b end r rest is few (at_end e c f none) = no_request one b r rest none is
 goes_on one n b end r rest is few (refusing fault e c f bad) = not_both one b r rest fault is bad
@@ -78,7 +78,7 @@ same_end one closed n b end end' (at_limit e c full) (refusing fault e' c' f' ba
 same_end one closed n b end end' (at_limit e c full) (at_limit e' c' full') = e ∙ sym e'
 
 -- the same end by other words for the closing, the number of turns and the rest
-said : (closed closed' : Bool) (n n' : ℕ) (b b' : List ℕ) (end : SessionEnd) → closed ≡ closed' → n ≡ n' → b ≡ b' → Stop closed n b end → Stop closed' n' b' end
+pub said : (closed closed' : Bool) (n n' : ℕ) (b b' : List ℕ) (end : SessionEnd) → closed ≡ closed' → n ≡ n' → b ≡ b' → Stop closed n b end → Stop closed' n' b' end
 said closed closed' n n' b b' end c e r s = subst (λ (x : Bool). Stop x n' b' end) c (subst (λ (x : ℕ). Stop closed x b' end) e (subst (λ (x : List ℕ). Stop closed n x end) r s))
 
 -- Two sessions

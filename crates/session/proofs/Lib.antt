@@ -1,5 +1,7 @@
+pub mod AlikeLemmas
 pub mod AnswerLemmas
 pub mod EnterLemmas
+pub mod GrowthLemmas
 pub mod HouseLemmas
 pub mod LawLemmas
 pub mod MarkLemmas

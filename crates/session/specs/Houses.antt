@@ -8,7 +8,7 @@ use Rattle.journal.specs.declared.limits.Limits.{Limits}
 use Rattle.journal.specs.declared.txn.Txn.{Txn}
 use Rattle.iso_txn.specs.Repository.{AreAllowed, PinnedRead, Repository}
 use Rattle.api_replies.specs.Ids.{is_id}
-use Rattle.repo_store.specs.Stores.{IsNextStep}
+use Rattle.repo_store.specs.Stores.{IsNextStep, is_of_one_seat}
 use Rattle.session.specs.Marks.{Journals}
 
 -- 1 to 16 distinct IDs
@@ -27,10 +27,15 @@ pub record IsCatalog (c : Catalog) : Type 0 where
   pub names : AreNames c.names
   pub limits : AreAllowed c.limits
 
--- a repository for each ID, of these limits
+-- all entries of the journal have the seat number 0, and they are no more than these limits allow
+pub record IsOwn (limits : Limits) (journal : List Entry) : Type 0 where
+  pub seats : IsTrue (is_of_one_seat 0 journal)
+  pub room : length journal ≤ limits.places
+
+-- a repository for each ID, of these limits, with no entry but the caller's own
 abbrev pub AreOf : Limits → List (List ℕ) → List Repository → Type 0
 AreOf limits [] [] = Unit {0}
-AreOf limits (name ∷ names) (repo ∷ repos) = (repo.limits ≡ limits) × AreOf limits names repos
+AreOf limits (name ∷ names) (repo ∷ repos) = (repo.limits ≡ limits) × IsOwn limits repo.journal × AreOf limits names repos
 AreOf limits [] (repo ∷ repos) = ⊥
 AreOf limits (name ∷ names) [] = ⊥
 

@@ -1,5 +1,5 @@
 -- The journals of several repositories, and where a seat's entries stand in them.
-use Rattle.std.specs.Prelude.{◌≡◌, ◌<◌, ℕ, suc, ◌==◌, if◌then◌else◌, List, [], ◌∷◌, ◌++◌, length}
+use Rattle.std.specs.Prelude.{◌≡◌, ◌<◌, ℕ, zero, suc, ◌==◌, if◌then◌else◌, List, [], ◌∷◌, ◌++◌, length}
 use Rattle.journal.specs.declared.entry.Entry.{Entry}
 use Rattle.journal.specs.declared.entry.Mark.{Mark}
 
@@ -36,6 +36,21 @@ pub record Goes (seat : ℕ) (old new : List Entry) (places : List ℕ) : Type 0
 -- Each journal goes on, and past the old ones the entries with the seat's number there stand exactly at these marks.
 abbrev pub Moves : (ℕ → ℕ) → Journals → Journals → List Mark → Type 0
 Moves seats old new marks = (repo : ℕ) → Goes (seats repo) (old repo) (new repo) (places_in repo marks)
+
+-- so many places, one after another, of which this is the first
+abbrev pub places_from : ℕ → ℕ → List ℕ
+places_from at zero = []
+places_from at (suc n) = at ∷ places_from (suc at) n
+
+-- The journal is the old one, and behind it stand entries at exactly these places, in order.
+pub record GrowsBy (old new : List Entry) (places : List ℕ) : Type 0 where
+  pub more : List Entry
+  pub begins : new ≡ old ++ more
+  pub all : places ≡ places_from (length old) (length more)
+
+-- Each journal is its old one, followed by the entries at the marks, in order, and by no other.
+abbrev pub AllGrowBy : Journals → Journals → List Mark → Type 0
+AllGrowBy old new marks = (repo : ℕ) → GrowsBy (old repo) (new repo) (places_in repo marks)
 
 -- each of these marks names a place below this one
 abbrev pub Below : ℕ → List Mark → Type 0

@@ -14,7 +14,7 @@ mod store;
 mod visit;
 
 pub use catalog::Catalog;
-pub use laws::{sound_sessions_end_alike, whole_streams_end_done};
+pub use laws::{sound_sessions_end_alike, undisturbed_sessions_are_alike, whole_streams_end_done};
 pub use local::{LocalHouse, serve_local};
 pub use rdf_io::{Gate, GateMark, OpenGate};
 pub use report::{Outcome, SessionEnd, SessionReport, Turn};

@@ -3,10 +3,10 @@ ghost use Rattle.std.specs.Prelude.{◌≡◌, ◌+◌, ◌<◌, ◌≤◌, ◌^
 ghost use Rattle.iso_txn.specs.Repository.{AreAllowed};
 ghost use Rattle.session.specs.Causes.{Caused, sink_broke, source_broke};
 ghost use Rattle.session.specs.Ends.{IsSession};
-ghost use Rattle.session.specs.Marks.{Moves};
+ghost use Rattle.session.specs.Marks.{AllGrowBy, Moves};
 ghost use Rattle.session.specs.Sending.{Puts};
 ghost use Rattle.session.specs.Turns.{ground};
-ghost use Rattle.session.specs.Houses.{AreNames, AreOf, house_journals, journals_of, new_repo};
+ghost use Rattle.session.specs.Houses.{AreNames, AreOf, IsOwn, house_journals, journals_of, new_repo};
 
 use crate::catalog::Catalog;
 use crate::report::SessionReport;
@@ -219,6 +219,12 @@ pub fn serve_local<S: Source, K: Sink>(
     // at the marks, in order.
     ensures moves { Moves (λ repo. 0) (house_journals house.old) (house_journals house.new) result.marks.items }
 
+    // No one else makes entries: all have the seat number 0, and no journal has more than the limits
+    // allow. So each journal is what it was, followed by the entries at the marks, in order, and by no
+    // other.
+    ensures own { (repo : ℕ) → IsOwn house.new.limits (house_journals house.new repo) }
+    ensures grow { AllGrowBy (house_journals house.old) (house_journals house.new) result.marks.items }
+
     // Where the source tells its bytes, the requests cut from them have right turns, by the journals at
     // the end, and what is written is their text.
     ensures session { (b : List ℕ) → S.left source.old ≡ Some b → (text : List ℕ) × Puts (K.taken sink.old) (K.taken sink.new) text
@@ -243,6 +249,8 @@ impl LocalHouse {
     ) -> SessionReport
         ensures house { (self.new.names ≡ self.old.names) × (self.new.limits ≡ self.old.limits) }
         ensures moves { Moves (λ repo. 0) (house_journals self.old) (house_journals self.new) result.marks.items }
+        ensures own { (repo : ℕ) → IsOwn self.new.limits (house_journals self.new repo) }
+        ensures grow { AllGrowBy (house_journals self.old) (house_journals self.new) result.marks.items }
         ensures session { (b : List ℕ) → S.left source.old ≡ Some b → (text : List ℕ) × Puts (K.taken sink.old) (K.taken sink.new) text
             × IsSession (ground self.new.names self.new.limits (house_journals self.new) (λ repo. 0)) b (S.left source.new)
             result.end result.turns.items result.marks.items text }
