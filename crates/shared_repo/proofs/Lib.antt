@@ -1,4 +1,5 @@
 pub mod ListLemmas
 pub mod PassLemmas
+pub mod PassLists
 pub mod SendLemmas
 pub mod SoundLemmas

@@ -33,6 +33,7 @@ impl Repo {
         requires limits { AreAllowed limits }
         requires seats { 0 < seats }
         ensures passes { IfOk result (λ it. AreFirst it.0 0 it.1.items) }
+        ensures own { IfOk result (λ it. ArePasses it.0 it.1.items) }
         ensures count { IfOk result (λ it. vec_len it.1 ≡ seats) }
         ensures seats { IfOk result (λ it. passes_of it.0 ≡ seats) }
         ensures limits { IfOk result (λ it. limits_of it.0 ≡ limits) }

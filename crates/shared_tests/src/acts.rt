@@ -1,7 +1,7 @@
 //! What callers do and are answered, as plain data.
 ghost use Rattle.shared_repo.specs.Passes.{IsPass};
 
-use crate::quads::{Observed, evens, number_of, numbered, observed_by, size};
+use crate::quads::{Observed, evens, number_of, numbered, observed_by, set_of, size};
 use change_set::{Change, Changes};
 use journal::{Ask, Level, NamesOp, Reply, StoreFault, Txn};
 use rdf_term::{Memory, Pattern, Quad};
@@ -38,34 +38,43 @@ pub enum Answer {
     Conflict(Observed, u64),
     TooLarge,
     Count(u64),
-    /// The number of quads of a list.
-    Quads(usize),
+    /// The numbers of the quads of a list, each below 64, as the bits of a set.
+    Quads(u64),
+    /// The number of prefixes, of which these entries give none.
     Prefixes(usize),
-    /// Nothing else is answered by these entries.
+    /// Nothing else is answered by these entries: no other quad or pattern either.
     Other,
 }
 
 /// The answer that names a pattern and a quad.
-fn conflict_of(pattern: &Pattern, quad: &Quad) -> Answer {
-    match number_of(quad) {
-        Some(number) => Answer::Conflict(observed_by(pattern), number),
-        None => Answer::Other,
+fn conflict_of(alloc: Global, pattern: &Pattern, quad: &Quad) -> Result<Answer, Memory> {
+    match (observed_by(pattern), number_of(alloc, quad)?) {
+        (Some(observed), Some(number)) => Ok(Answer::Conflict(observed, number)),
+        _ => Ok(Answer::Other),
+    }
+}
+
+/// The answer of these quads.
+fn quads_of(alloc: Global, quads: &[Quad]) -> Result<Answer, Memory> {
+    match set_of(alloc, quads)? {
+        Some(set) => Ok(Answer::Quads(set)),
+        None => Ok(Answer::Other),
     }
 }
 
 /// The answer that a reply gives.
-fn answer_of(reply: &Reply) -> Answer {
+fn answer_of(alloc: Global, reply: &Reply) -> Result<Answer, Memory> {
     match reply {
-        Reply::Begun(txn) => Answer::Begun(*txn),
-        Reply::Done => Answer::Done,
-        Reply::NoTransaction => Answer::NoTransaction,
-        Reply::TooManyOpen => Answer::TooManyOpen,
-        Reply::Conflict(pattern, quad) => conflict_of(pattern, quad),
-        Reply::TooLarge => Answer::TooLarge,
-        Reply::Count(count) => Answer::Count(*count),
-        Reply::Quads(quads) => Answer::Quads(quads.len()),
-        Reply::Prefixes(names) => Answer::Prefixes(names.len()),
-        _ => Answer::Other,
+        Reply::Begun(txn) => Ok(Answer::Begun(*txn)),
+        Reply::Done => Ok(Answer::Done),
+        Reply::NoTransaction => Ok(Answer::NoTransaction),
+        Reply::TooManyOpen => Ok(Answer::TooManyOpen),
+        Reply::Conflict(pattern, quad) => conflict_of(alloc, pattern, quad),
+        Reply::TooLarge => Ok(Answer::TooLarge),
+        Reply::Count(count) => Ok(Answer::Count(*count)),
+        Reply::Quads(quads) => quads_of(alloc, quads.as_slice()),
+        Reply::Prefixes(names) => Ok(Answer::Prefixes(names.len())),
+        _ => Ok(Answer::Other),
     }
 }
 
@@ -89,7 +98,7 @@ fn enter_ask<R: Wait>(
 {
     let (place, pinned) = repo.pin(rt, pass, txn, ask)?;
     let reply = answer(alloc, &pinned, ask)?;
-    Ok((place, answer_of(&reply)))
+    Ok((place, answer_of(alloc, &reply)?))
 }
 
 fn enter_add<R: Wait>(
@@ -105,25 +114,35 @@ fn enter_add<R: Wait>(
 {
     let changes = adding(alloc, number)?;
     let (place, reply) = repo.write(rt, pass, txn, &changes)?;
-    Ok((place, answer_of(&reply)))
+    Ok((place, answer_of(alloc, &reply)?))
 }
 
-fn enter_end<R: Wait>(
+fn enter_commit<R: Wait>(
     rt: &R,
+    alloc: Global,
     repo: &Repo,
     pass: &mut RepoPass,
     txn: Txn,
-    commits: bool,
 ) -> Result<(u64, Answer), StoreFault>
     requires { IsPass repo.now pass.old }
     ensures { IsPass repo.now pass.new }
 {
-    let (place, reply) = if commits {
-        repo.commit(rt, pass, txn)?
-    } else {
-        repo.rollback(rt, pass, txn)?
-    };
-    Ok((place, answer_of(&reply)))
+    let (place, reply) = repo.commit(rt, pass, txn)?;
+    Ok((place, answer_of(alloc, &reply)?))
+}
+
+fn enter_rollback<R: Wait>(
+    rt: &R,
+    alloc: Global,
+    repo: &Repo,
+    pass: &mut RepoPass,
+    txn: Txn,
+) -> Result<(u64, Answer), StoreFault>
+    requires { IsPass repo.now pass.old }
+    ensures { IsPass repo.now pass.new }
+{
+    let (place, reply) = repo.rollback(rt, pass, txn)?;
+    Ok((place, answer_of(alloc, &reply)?))
 }
 
 /// The place of an entry in a shared repository, and the answer to it.
@@ -140,20 +159,20 @@ pub fn enter<R: Wait>(
     match act {
         Act::Begin(level) => {
             let (place, reply) = repo.begin(rt, pass, level)?;
-            Ok((place, answer_of(&reply)))
+            Ok((place, answer_of(alloc, &reply)?))
         }
         Act::Size(txn) => enter_ask(rt, alloc, repo, pass, txn, &size(alloc)),
         Act::Evens(txn) => enter_ask(rt, alloc, repo, pass, txn, &evens(alloc)?),
         Act::Add(txn, number) => enter_add(rt, alloc, repo, pass, txn, number),
-        Act::Commit(txn) => enter_end(rt, repo, pass, txn, true),
-        Act::Rollback(txn) => enter_end(rt, repo, pass, txn, false),
+        Act::Commit(txn) => enter_commit(rt, alloc, repo, pass, txn),
+        Act::Rollback(txn) => enter_rollback(rt, alloc, repo, pass, txn),
         Act::Ping(txn) => {
             let (place, reply) = repo.ping(rt, pass, txn)?;
-            Ok((place, answer_of(&reply)))
+            Ok((place, answer_of(alloc, &reply)?))
         }
         Act::Prefixes => {
             let (place, reply) = repo.names(rt, pass, &NamesOp::List)?;
-            Ok((place, answer_of(&reply)))
+            Ok((place, answer_of(alloc, &reply)?))
         }
     }
 }
@@ -185,5 +204,5 @@ pub fn enter_locally(
         Act::Ping(txn) => repo.ping(txn)?,
         Act::Prefixes => repo.names(&NamesOp::List)?,
     };
-    Ok((place, answer_of(&reply)))
+    Ok((place, answer_of(alloc, &reply)?))
 }

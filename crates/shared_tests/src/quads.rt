@@ -1,7 +1,7 @@
 //! Quads by their numbers, and what is asked of them.
 use journal::{Ask, Graphs};
 use nquads_line::{Kind, read_line};
-use rdf_term::{Memory, Pattern, Quad, Term, Text};
+use rdf_term::{GraphPick, Memory, Pattern, Quad, Term, Text};
 use std::alloc::Global;
 
 /// Which quads a read observes.
@@ -31,19 +31,67 @@ pub(crate) fn numbered(alloc: Global, number: u64) -> Result<Quad, Memory> {
     quad_of(alloc, line.as_str())
 }
 
-/// The number of a quad.
-pub(crate) fn number_of(quad: &Quad) -> Option<u64> {
+/// The number that a quad's object spells.
+fn spelled(quad: &Quad) -> Option<u64> {
     match quad.o() {
         Term::Plain(text) => text.as_str().parse::<u64>().ok(),
         _ => None,
     }
 }
 
-/// Which quads a pattern matches.
-pub(crate) fn observed_by(pattern: &Pattern) -> Observed {
+/// The number of a quad, where it is the quad of a number in all its parts.
+pub(crate) fn number_of(alloc: Global, quad: &Quad) -> Result<Option<u64>, Memory> {
+    match spelled(quad) {
+        Some(number) if *quad == numbered(alloc, number)? => Ok(Some(number)),
+        _ => Ok(None),
+    }
+}
+
+/// The bit of a number below 64 that isn't in a set yet, with the set.
+fn with_bit(set: u64, number: u64) -> Option<u64> {
+    let bit = match number {
+        0..=63 => 1u64 << number,
+        _ => return None,
+    };
+    if set & bit == 0 {
+        Some(set | bit)
+    } else {
+        None
+    }
+}
+
+/// The numbers of quads as the bits of a set, where each is the quad of another number below 64.
+pub(crate) fn set_of(alloc: Global, quads: &[Quad]) -> Result<Option<u64>, Memory> {
+    let mut set = 0u64;
+    for quad in quads {
+        let Some(number) = number_of(alloc, quad)? else {
+            return Ok(None);
+        };
+        let Some(more) = with_bit(set, number) else {
+            return Ok(None);
+        };
+        set = more;
+    }
+    Ok(Some(set))
+}
+
+fn is_even(predicate: &Term) -> bool {
+    match predicate {
+        Term::Iri(text) => text.as_str() == EVEN,
+        _ => false,
+    }
+}
+
+/// Which quads a pattern matches, where it is one of the two that are asked for.
+pub(crate) fn observed_by(pattern: &Pattern) -> Option<Observed> {
+    match (&pattern.s, &pattern.o, &pattern.c) {
+        (None, None, GraphPick::Any) => {}
+        _ => return None,
+    }
     match &pattern.p {
-        Some(_) => Observed::Evens,
-        None => Observed::All,
+        None => Some(Observed::All),
+        Some(predicate) if is_even(predicate) => Some(Observed::Evens),
+        Some(_) => None,
     }
 }
 

@@ -1,7 +1,7 @@
 //! Threads that make entries in one repository, each by a pass of its own.
 ghost use Rattle.std.specs.Prelude.{◌≡◌, ◌<◌, vec_len, vec_capacity};
 ghost use Rattle.std.specs.Thread.{IsSync};
-ghost use Rattle.shared_repo.specs.Passes.{AreFirst, ArePasses, IsPass};
+ghost use Rattle.shared_repo.specs.Passes.{ArePasses, IsPass};
 
 use crate::acts::{Act, Answer, enter};
 use iso_txn::RepoState;
@@ -175,12 +175,6 @@ pub struct Crew {
     pub heard: Vec<Vec<Heard>>,
 }
 
-/// New passes of a repository are passes of it.
-fn are_passes(repo: &Repo, passes: &Vec<RepoPass>)
-    requires { AreFirst repo.now 0 passes.now.items }
-    ensures { ArePasses repo.now passes.now.items }
-{}
-
 /// So many threads with so many calls each.
 pub fn work_by<R: Threads + Wait + Sync>(
     rt: &R,
@@ -192,7 +186,6 @@ pub fn work_by<R: Threads + Wait + Sync>(
 {
     let orders = Order::standard(alloc)?;
     let (repo, passes) = Repo::new(alloc, &orders, Limits::standard(), threads)?;
-    are_passes(&repo, &passes);
     let (passes, heard) = work_each(rt, alloc, &repo, passes, calls);
     let (state, _) = repo.close(passes);
     Ok(Crew { state, heard })

@@ -110,6 +110,31 @@ fn query_sees_a_write_of_another_pass_between_its_steps(rt: HostRuntime) -> Resu
 }
 
 #[test]
+fn lists_of_a_pass_have_what_the_other_committed(rt: HostRuntime) -> Result<(), StoreFault> {
+    let cases = [
+        first(Act::Add(None, 4), Answer::Done),
+        first(Act::Add(None, 7), Answer::Done),
+        second(Act::Add(None, 0), Answer::Done),
+        second(Act::Evens(None), Answer::Quads(0b10001)),
+        first(Act::Evens(None), Answer::Quads(0b10001)),
+    ];
+    match play(&rt, rt.alloc(), &cases)? {
+        Some(state) => assert!(rt; state.quads() == 3 && state.commits() == 0),
+        None => assert!(rt; false, "an answer differs"),
+    }
+    Ok(())
+}
+
+#[test]
+fn answers_to_two_threads_are_those_of_one_caller(rt: HostRuntime) -> Result<(), StoreFault> {
+    let alloc = rt.alloc();
+    let crew = work_by(&rt, alloc, 2, 1_000)?;
+    assert!(rt; crew.state.length() == 2_000 && crew.heard.len() == 2);
+    assert!(rt; is_replayed(alloc, crew.heard.as_slice())?);
+    Ok(())
+}
+
+#[test]
 fn answers_to_eight_threads_are_those_of_one_caller(rt: HostRuntime) -> Result<(), StoreFault> {
     let alloc = rt.alloc();
     let crew = work_by(&rt, alloc, 8, 1_000)?;

@@ -1,6 +1,6 @@
 use Rattle.std.proofs.Common.{rules, sym, subst}
 use Rattle.shared_repo.specs.Passes.{ArePasses}
-use Rattle.shared_tests.proofs.PassLists.{passes_more, passes_parts}
+use Rattle.shared_repo.proofs.PassLists.{passes_more, passes_parts}
 use Rattle.shared_tests.proofs.threads.+fn-work_each-join+arg3+work_each.Goals as goal
 
 pub join-last-requires-after_bounds : goal.join-last-requires-after_bounds
