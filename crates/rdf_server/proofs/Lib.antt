@@ -1,2 +1,5 @@
 pub mod RunLemmas
+pub mod ServeLemmas
+pub mod ServeParts
+pub mod ServingLemmas
 pub mod WordLemmas

@@ -71,7 +71,7 @@ same_letters C P e = absurd (omega (arith, e))
 same_letters C O e = absurd (omega (arith, e))
 same_letters C C e = refl
 
-head_same : {X : Type 0} (x y : X) (xs ys : List X) → x ∷ xs ≡ y ∷ ys → x ≡ y
+pub head_same : {X : Type 0} (x y : X) (xs ys : List X) → x ∷ xs ≡ y ∷ ys → x ≡ y
 head_same x y xs ys e = cc
 
 pub tail_same : {X : Type 0} (x y : X) (xs ys : List X) → x ∷ xs ≡ y ∷ ys → xs ≡ ys
@@ -88,16 +88,16 @@ same_order (x ∷ xs) (y ∷ ys) e =
 
 -- Distinct IDs
 
-contains_front : {X : Type 0} (x : X) (xs : List X) → Contains (x ∷ xs) x
+pub contains_front : {X : Type 0} (x : X) (xs : List X) → Contains (x ∷ xs) x
 contains_front x xs = (0, omega arith, refl)
 
-contains_later : {X : Type 0} (x y : X) (xs : List X) → Contains xs y → Contains (x ∷ xs) y
+pub contains_later : {X : Type 0} (x y : X) (xs : List X) → Contains xs y → Contains (x ∷ xs) y
 contains_later x y xs h = (suc h.0, omega (arith, h.1), h.2)
 
-pub no_ids : EachOnce {X = List ℕ} []
+pub no_ids : {X : Type 0} → EachOnce {X = X} []
 no_ids i j d less within e = absurd (omega (arith, within))
 
-pub once_more : (x : List ℕ) (xs : List (List ℕ)) → (Contains xs x → ⊥) → EachOnce xs → EachOnce (x ∷ xs)
+pub once_more : {X : Type 0} (x : X) (xs : List X) → (Contains xs x → ⊥) → EachOnce xs → EachOnce (x ∷ xs)
 once_more x xs new once i zero d less within e = absurd (omega (arith, less))
 once_more x xs new once zero (suc j) d less within e =
     let inside : j < length xs = omega (arith, within) in
@@ -107,7 +107,7 @@ once_more x xs new once (suc i) (suc j) d less within e = once i j d (omega (ari
 text_same : (x y : List ℕ) → Decides (eq_by_cmp text_cmp x y) (x ≡ y)
 text_same x y = same_by_cmp text_total text_exact x y (eq_by_cmp text_cmp x y) refl
 
-and_left : (a b : Bool) → IsTrue (a && b) → IsTrue a
+pub and_left : (a b : Bool) → IsTrue (a && b) → IsTrue a
 and_left true b h = refl
 and_left false b h = h
 
@@ -117,11 +117,11 @@ and_right false b h = cc
 
 -- Contains of a list, by its front
 
-contains_cases : {X : Type 0} (x y : X) (xs : List X) → Contains (x ∷ xs) y → (x ≡ y) ⊎ Contains xs y
+pub contains_cases : {X : Type 0} (x y : X) (xs : List X) → Contains (x ∷ xs) y → (x ≡ y) ⊎ Contains xs y
 contains_cases x y xs (zero, within, e) = inl e
 contains_cases x y xs (suc k, within, e) = inr (k, omega (arith, within), e)
 
-contains_none : {X : Type 0} (y : X) → Contains [] y → ⊥
+pub contains_none : {X : Type 0} (y : X) → Contains [] y → ⊥
 contains_none y h = absurd (omega (arith, h.1))
 
 among_more : (word x : List ℕ) (xs : List (List ℕ)) (same : Bool) → Decides same (x ≡ word) → {any : Bool} → Decides any (Contains xs word)
@@ -141,7 +141,7 @@ pub among : (word : List ℕ) (words : List (List ℕ)) → Decides (list_any (�
 among word [] = (λ e. cc, λ h. absurd (contains_none word h))
 among word (x ∷ xs) = among_more word x xs (eq_by_cmp text_cmp x word) (text_same x word) (among word xs)
 
-pub once_less : (x : List ℕ) (xs : List (List ℕ)) → EachOnce (x ∷ xs) → (Contains xs x → ⊥) × EachOnce xs
+pub once_less : {X : Type 0} (x : X) (xs : List X) → EachOnce (x ∷ xs) → (Contains xs x → ⊥) × EachOnce xs
 once_less x xs once =
     (λ h. once 0 (suc h.0) x (omega arith) (omega (arith, h.1)) (sym h.2), λ i j d less within. once (suc i) (suc j) d (omega (arith, less)) (omega (arith, within)))
 

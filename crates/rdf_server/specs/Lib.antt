@@ -1,2 +1,5 @@
 pub mod Programs
+pub mod Readings
+pub mod ServeWords
+pub mod Serving
 pub mod Words

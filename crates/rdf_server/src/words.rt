@@ -67,7 +67,7 @@ fn are_ids(words: &[Text]) -> bool
 }
 
 /// Whether words are 1 to 16 distinct IDs.
-fn are_names(words: &[Text]) -> bool
+pub(crate) fn are_names(words: &[Text]) -> bool
     ensures { IsTrue result ↔ AreNames words.now }
 {
     if words.is_empty() {
@@ -89,7 +89,7 @@ fn is_option_key(word: &Text) -> bool
 }
 
 /// The order that a word is, an arrangement of the letters `s`, `p`, `o` and `c`.
-fn order_of(word: &Text) -> Option<Order>
+pub(crate) fn order_of(word: &Text) -> Option<Order>
     ensures some { IfSome result (λ order. IsArrangement order × (word.now ≡ map letter_byte order)) }
     ensures none { IfNone result ((order : _) → IsArrangement order → word.now ≡ map letter_byte order → ⊥) }
 {
@@ -115,7 +115,7 @@ fn front_order(words: &[Text]) -> Option<Order>
 }
 
 /// The words behind the first two.
-fn past_option(words: &[Text]) -> &[Text]
+pub(crate) fn past_option(words: &[Text]) -> &[Text]
     ensures value { (key word : List ℕ) (rest : List (List ℕ)) → words.now ≡ key ∷ (word ∷ rest) → result.now ≡ rest }
     ensures shorter { 2 ≤ length words.now → length result.now < length words.now }
 {
