@@ -1,0 +1,15 @@
+use Rattle.std.proofs.Common.{append_assoc}
+use Rattle.workload.proofs.requests.put_subject_statements.Goals as goal
+
+pub returns : goal.returns
+returns c =
+    rw (
+      c.in_ok-append-4.ensures.ok,
+      c.in_ok-append_decimal-2.ensures.ok,
+      c.in_ok-append-3.ensures.ok,
+      c.in_ok-append_decimal.ensures.ok,
+      c.in_ok-append-2.ensures.ok,
+      c.in_ok-append.ensures.ok,
+      c.from.ensures,
+      c.from-2.ensures,
+    ) (simp append_assoc)
