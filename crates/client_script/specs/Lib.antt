@@ -1,0 +1,10 @@
+pub mod Actions
+pub mod Inputs
+pub mod Laws
+pub mod Lines
+pub mod Printed
+pub mod Rests
+pub mod Scripts
+pub mod Takes
+pub mod Verbs
+pub mod Waits
