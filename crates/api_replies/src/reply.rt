@@ -109,7 +109,7 @@ fn truth(alloc: Global, form: Form, truth: bool) -> Result<Response, Memory>
 }
 
 /// Whether a body of quads in this form names the graphs.
-fn kind_of(form: Form) -> Kind
+pub fn kind_of(form: Form) -> Kind
     ensures { result ≡ kind_of form }
 {
     match form {

@@ -2,7 +2,7 @@
 //! and requests that are written and read again.
 use http_frame::{
     FrameFault, Frames, Request, Response, response_frames_are_determined, write_request,
-    write_response, written_requests_are_frames,
+    write_response, written_requests_are_frames, written_responses_are_frames,
 };
 use rdf_io::MemSource;
 use rdf_term::{Bytes, Memory, Seq};
@@ -394,6 +394,7 @@ fn requests_are_written_and_read_again(rt: HostRuntime) -> Result<(), FrameFault
 #[test]
 fn responses_are_written_and_read_again(rt: HostRuntime) -> Result<(), Memory> {
     let alloc = rt.alloc();
+    written_responses_are_frames();
     for (status, closes, want) in [
         (200, false, "200[ab]200[ab]end"),
         (204, false, "204[]204[]end"),

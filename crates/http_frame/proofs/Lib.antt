@@ -1,6 +1,7 @@
 pub mod BodyLemmas
 pub mod ChunkLemmas
 pub mod ChunkedLemmas
+pub mod DecimalLemmas
 pub mod EndLemmas
 pub mod FieldLemmas
 pub mod FrameExamples
@@ -14,3 +15,4 @@ pub mod ResponseLemmas
 pub mod StatusLemmas
 pub mod StreamLemmas
 pub mod TurnLemmas
+pub mod WrittenLemmas

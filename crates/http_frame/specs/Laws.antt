@@ -1,13 +1,15 @@
 -- A stream has one frame: it is empty, or begins with one request or response, or is refused with one fault. What is written of a
--- request is read as that one.
+-- request or a response is read as that one.
 use Rattle.std.specs.Prelude.{◌≡◌, ℕ, Bool, false, List, [], ◌++◌, codes, Option, Some, None, Result, Ok, Err}
 use Rattle.http_frame.specs.Answers.{NextHead, NextBody, NextFrame}
 use Rattle.http_frame.specs.Fields.{values_of}
 use Rattle.http_frame.specs.Frames.{IsRequest, Frame, request, IsFrame}
-use Rattle.http_frame.specs.Messages.{SeenRequest}
+use Rattle.http_frame.specs.Messages.{SeenRequest, SeenResponse}
 use Rattle.http_frame.specs.RequestWire.{request_wire, IsSpelled, KeepsLimits}
 use Rattle.http_frame.specs.Responses.{ResponseFrame, response, IsResponseFrame}
 use Rattle.http_frame.specs.Streams.{IsStream}
+use Rattle.http_frame.specs.Wire.{wire}
+use Rattle.http_frame.specs.WrittenResponses.{read_back, IsReadable}
 use Rattle.http_frame.specs.declared.fault.FrameFault.{FrameFault}
 use Rattle.http_frame.specs.declared.message.Head.{Head}
 
@@ -48,3 +50,8 @@ WrittenIsFrame = (r : SeenRequest) → IsSpelled r → KeepsLimits r → IsFrame
 abbrev pub ReadIsSpelled : Type 0
 ReadIsSpelled = (b : List ℕ) (r : SeenRequest) (rest : List ℕ) → IsRequest b r rest → values_of (codes "transfer-encoding") r.head.fields ≡ []
     → IsSpelled r
+
+-- what is written of a response is read as that response with the fields of its framing, whatever follows it
+abbrev pub WrittenResponseIsFrame : Type 0
+WrittenResponseIsFrame = (r : SeenResponse) (minor : ℕ) (closes : Bool) (more : List ℕ) → IsReadable r closes
+    → IsResponseFrame (wire r minor closes false ++ more) (response (read_back r closes) more)

@@ -20,3 +20,4 @@ pub mod StatusSearch
 pub mod Streams
 pub mod Values
 pub mod Wire
+pub mod WrittenResponses

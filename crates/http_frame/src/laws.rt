@@ -1,4 +1,4 @@
-ghost use Rattle.http_frame.specs.Laws.{OneFrame, StaysRequest, HeadIsFrame, BodyIsFrame, OneResponseFrame, WrittenIsFrame, ReadIsSpelled};
+ghost use Rattle.http_frame.specs.Laws.{OneFrame, StaysRequest, HeadIsFrame, BodyIsFrame, OneResponseFrame, WrittenIsFrame, ReadIsSpelled, WrittenResponseIsFrame};
 
 /// What stands at the front of a stream is determined by its bytes, and a request by its own bytes
 /// alone. So what an answer of [`Frames`](crate::Frames) means, as its clauses say, is when it comes.
@@ -26,4 +26,12 @@ pub fn response_frames_are_determined()
 pub fn written_requests_are_frames()
     ensures frame { WrittenIsFrame }
     ensures spelled { ReadIsSpelled }
+{}
+
+/// What [`write_response`](crate::write_response) writes of a response with its body is read as that
+/// response with the fields of its framing behind its own, whatever follows it. It is to be no
+/// informational one and none of status 304, to have plain fields that say nothing of its framing, and to
+/// keep the limits.
+pub fn written_responses_are_frames()
+    ensures { WrittenResponseIsFrame }
 {}

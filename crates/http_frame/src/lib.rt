@@ -34,7 +34,7 @@ pub use fields::{Fields, Octets, count_named, find_named, same_name, trim_ows};
 pub use frames::Frames;
 pub use laws::{
     frames_are_determined, heads_and_bodies_are_frames, response_frames_are_determined,
-    written_requests_are_frames,
+    written_requests_are_frames, written_responses_are_frames,
 };
 pub use message::{Head, Request, Response};
 pub use request_wire::write_request;

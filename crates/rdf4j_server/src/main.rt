@@ -1,5 +1,5 @@
 //! The program `rdf4j_server`: the top calls of the library `rdf_server` over standard input and output,
-//! and over the connections of a port.
+//! over the connections of a port, and over sessions in memory.
 //!
 //! It writes nothing to standard error, and to standard output only what the top call wrote.
 #![tactic(auto)]
@@ -7,7 +7,7 @@
 ghost use Rattle.std.specs.Prelude.{◌≡◌, ◌≤◌, All, IfOk, false, vec_len};
 
 use rdf_io::{Door, OpenGate, StdinSource, StdoutSink, TcpDoor};
-use rdf_server::{Plan, read_plan, run_serve, run_stdio};
+use rdf_server::{Plan, read_plan, run_serve, run_stdio, run_workload};
 use rdf_term::{Memory, Text};
 use std::alloc::Global;
 use std::net::{Net, TcpListener, TcpStream};
@@ -30,10 +30,11 @@ fn words<R: Env + AllocGlobal>(rt: &R) -> io::Result<Vec<Text>> {
     Ok(words)
 }
 
-fn is_serve(words: &[Text]) -> bool {
+/// Whether the words begin with this one.
+fn begin_with(words: &[Text], name: &str) -> bool {
     match words.first() {
         None => false,
-        Some(word) => word.as_str() == "serve",
+        Some(word) => word.as_str() == name,
     }
 }
 
@@ -82,6 +83,15 @@ fn serve<R: Net<Listener = TcpListener, Stream = TcpStream> + Threads + Wait + S
     }
 }
 
+/// The program `workload`, which prints to standard output.
+fn workload<R: Threads + Wait + Sync + AllocGlobal>(
+    rt: &R,
+    words: &[Text],
+    mut sink: StdoutSink,
+) -> u8 {
+    run_workload(rt, rt.alloc(), words, &mut sink).status
+}
+
 /// The program over standard input and output.
 fn stdio(rt: &HostRuntime, words: &[Text]) -> u8 {
     let mut source = StdinSource::new(rt.stdin());
@@ -96,8 +106,10 @@ fn main(rt: HostRuntime) -> ExitCode {
         Err(error) if error.kind() == io::ErrorKind::InvalidData => return ExitCode::from(5),
         Err(_) => return ExitCode::from(6),
     };
-    ExitCode::from(if is_serve(&words) {
+    ExitCode::from(if begin_with(&words, "serve") {
         serve(&rt, &words)
+    } else if begin_with(&words, "workload") {
+        workload(&rt, &words, StdoutSink::new(rt.stdout()))
     } else {
         stdio(&rt, &words)
     })

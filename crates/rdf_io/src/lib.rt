@@ -4,7 +4,7 @@
 //! above is proved over what they tell. Both count their faults, and an answer [`Failed`] comes only
 //! where that count rose. A [`Door`] gives connections, each a source and a sink, and counts what
 //! it gave and what came back broken; a [`Dial`] gives a client its one connection. A [`Gate`] may hold
-//! up whoever passes it.
+//! up whoever passes it. [`send`] writes a whole text to any sink.
 #![tactic(auto)]
 
 mod dial;
@@ -14,6 +14,7 @@ mod mem_dial;
 mod mem_door;
 mod mem_sink;
 mod mem_source;
+mod sending;
 mod sink;
 mod source;
 mod streams;
@@ -27,6 +28,7 @@ pub use mem_dial::MemDial;
 pub use mem_door::MemDoor;
 pub use mem_sink::MemSink;
 pub use mem_source::MemSource;
+pub use sending::send;
 pub use sink::Sink;
 pub use source::Source;
 pub use streams::{ReaderSource, StdinSource, StdoutSink, WriterSink};

@@ -1,5 +1,9 @@
+pub mod NameLemmas
 pub mod RunLemmas
 pub mod ServeLemmas
 pub mod ServeParts
 pub mod ServingLemmas
 pub mod WordLemmas
+pub mod WorkExamples
+pub mod WorkLemmas
+pub mod WorkerLemmas

@@ -1,5 +1,5 @@
 -- A run of the program by the session that it serves.
-use Rattle.std.proofs.Common.{◌≡◌, ℕ, ◌≤◌, ◌<◌, ◌⊎◌, Bool, true, false, true≢false, List, [], ◌∷◌, ◌++◌, Option, Some, length, codes, ap, sym, subst, ◌∙◌, refl, inl, inr, append-nil, arith}
+use Rattle.std.proofs.Common.{◌≡◌, ℕ, ◌≤◌, ◌<◌, ◌⊎◌, false, true≢false, List, [], ◌∷◌, Option, Some, length, codes, ap, sym, subst, ◌∙◌, refl, inl, inr, append-nil, arith}
 use Rattle.journal.specs.declared.entry.Entry.{Entry}
 use Rattle.journal.specs.declared.entry.Mark.{Mark}
 use Rattle.journal.specs.declared.limits.Limits.{Limits}
@@ -10,7 +10,7 @@ use Rattle.session.specs.Ends.{IsSession}
 use Rattle.session.specs.Houses.{AreNames}
 use Rattle.session.specs.Laws.{AreRequests, WholeStreamsEndDone}
 use Rattle.session.specs.Marks.{Goes, Journals, Moves, places_in}
-use Rattle.session.specs.Sending.{Puts}
+use Rattle.rdf_io.specs.Sending.{Puts}
 use Rattle.session.specs.Turns.{ground}
 use Rattle.session.specs.declared.report.SessionEnd.{SessionEnd}
 use Rattle.session.specs.declared.report.SessionEnd.TheVariants.{Done, Refused, ReadFault, WriteFault, Limit, Memory}

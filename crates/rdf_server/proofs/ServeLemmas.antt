@@ -1,24 +1,21 @@
 -- The words of `serve`.
-use Rattle.std.proofs.Common.{◌≡◌, ℕ, zero, suc, ◌≤◌, ◌<◌, ◌+◌, ◌^◌, Bool, true, false, true≢false, All, List, [], ◌∷◌, ◌++◌, IsTrue, length, map, codes, decimal, encode_utf8_all, slice_index_or, Option, Some, None, IfSome, IfNone, Contains, sym, ap, subst, ◌∙◌, refl, arith, inl, inr, append_assoc, append-nil, ◌&&◌}
+use Rattle.std.proofs.Common.{◌≡◌, ℕ, zero, suc, ◌≤◌, ◌<◌, ◌+◌, ◌^◌, Bool, true, false, true≢false, All, List, [], ◌∷◌, ◌++◌, IsTrue, length, decimal, encode_utf8_all, Some, None, Contains, sym, ap, subst, ◌∙◌, refl, arith, inl, inr}
 use Rattle.std.specs.List.{list_all}
-use Rattle.std.specs.Str.{IsAscii, IsUtf8, bytes_eq}
+use Rattle.std.specs.Str.{IsUtf8, bytes_eq}
 use Rattle.std.proofs.lemmas.Fmt.{IsAscii-decimal, decimal_injective}
 use Rattle.std.proofs.lemmas.Bool.Decides.{not_from_Decides}
 use Rattle.std.proofs.lemmas.Slice.Eq.{bytes_eq-Decides}
 use Rattle.std.proofs.lemmas.Str.{encodes_same, encodes-IsAscii}
-use Rattle.rdf_term.specs.EachOnce.{EachOnce}
 use Rattle.quad_index.specs.declared.letter.Letter.{Letter}
-use Rattle.quad_index.specs.Letters.{letter_byte}
 use Rattle.api_replies.specs.Ids.{is_id}
 use Rattle.session.specs.Houses.{AreNames}
 use Rattle.rdf_server.specs.declared.plan.Named.{Named}
-use Rattle.rdf_server.specs.declared.plan.Plan.{Plan}
 use Rattle.rdf_server.specs.declared.serve_option.OptionKind.{OptionKind}
 use Rattle.rdf_server.specs.declared.serve_option.OptionKind.TheVariants as kind
 use Rattle.rdf_server.specs.declared.serve_option.ServeOption.{ServeOption}
 use Rattle.rdf_server.specs.declared.serve_option.ServeOption.TheVariants.{Order, Port, Workers, Connections}
-use Rattle.rdf_server.specs.Readings.{AreNamed, AreOnce, AreRead, IsPlan}
-use Rattle.rdf_server.specs.ServeWords.{IsOption, IsServe, connections_in, kind_of, kind_word, listed, option_words, orders_in, ports_in, value_word, workers_in}
+use Rattle.rdf_server.specs.Readings.{AreNamed, AreOnce, AreRead}
+use Rattle.rdf_server.specs.ServeWords.{IsOption, connections_in, kind_of, kind_word, listed, option_words, orders_in, ports_in, value_word, workers_in}
 use Rattle.rdf_server.proofs.WordLemmas.{and_left, contains_cases, contains_later, contains_none, head_same, no_ids, once_less, once_more, same_order, tail_same, word_told}
 
 -- A word in UTF-8 and a number

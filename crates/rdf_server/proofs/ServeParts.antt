@@ -1,8 +1,7 @@
 -- The plan, the orders and the IDs of the words of `serve`.
-use Rattle.std.proofs.Common.{◌≡◌, ℕ, zero, suc, ◌≤◌, ◌<◌, Bool, true, if◌then◌else◌, All, List, [], ◌∷◌, ◌++◌, IsTrue, length, codes, Option, Some, None, IfSome, IfNone, Contains, sym, ap, subst, ◌∙◌, refl, arith, inl, inr, append_assoc, append-nil}
+use Rattle.std.proofs.Common.{◌≡◌, ℕ, suc, ◌≤◌, Bool, true, if◌then◌else◌, All, List, [], ◌∷◌, ◌++◌, IsTrue, length, codes, Option, Some, None, IfSome, Contains, sym, ap, subst, ◌∙◌, refl, arith, inl, inr, append_assoc, append-nil}
 use Rattle.rdf_term.specs.EachOnce.{EachOnce}
 use Rattle.quad_index.specs.declared.letter.Letter.{Letter}
-use Rattle.session.specs.Houses.{AreNames}
 use Rattle.rdf_server.specs.declared.plan.Named.{Named}
 use Rattle.rdf_server.specs.declared.plan.Plan.{Plan}
 use Rattle.rdf_server.specs.declared.serve_option.ServeOption.{ServeOption}

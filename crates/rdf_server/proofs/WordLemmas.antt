@@ -1,5 +1,5 @@
 -- The words of the program.
-use Rattle.std.proofs.Common.{◌≡◌, ◌≢◌, ℕ, zero, suc, ◌≤◌, ◌<◌, ◌+◌, ◌-◌, Bor, if◌then◌else◌, append_assoc, append-nil, Bool, true, false, ◌&&◌, ◌||◌, ◌⊎◌, true≢false, List, [], ◌∷◌, ◌++◌, IsTrue, length, map, codes, encode_utf8_all, get_or, Option, Some, None, IfSome, IfNone, Contains, nat_le, sym, ap, subst, ◌∙◌, refl, arith, inl, inr}
+use Rattle.std.proofs.Common.{◌≡◌, ℕ, zero, suc, ◌≤◌, ◌<◌, ◌-◌, Bor, if◌then◌else◌, append_assoc, append-nil, Bool, true, false, ◌&&◌, ◌||◌, ◌⊎◌, true≢false, List, [], ◌∷◌, ◌++◌, IsTrue, length, map, codes, encode_utf8_all, Option, Some, None, IfSome, IfNone, Contains, sym, ap, subst, ◌∙◌, refl, arith, inl, inr}
 use Rattle.std.specs.Str.{IsUtf8, bytes_eq}
 use Rattle.std.proofs.lemmas.Slice.Eq.{bytes_eq-Decides}
 use Rattle.std.proofs.lemmas.List.{get_or_default}
@@ -14,7 +14,7 @@ use Rattle.rdf_term.proofs.TextLemmas.{chars_of}
 use Rattle.quad_index.specs.declared.letter.Letter.{Letter}
 use Rattle.quad_index.specs.declared.letter.Letter.TheVariants.{S, P, O, C}
 use Rattle.quad_index.specs.Letters.{IsArrangement, letter_byte, standard_orders}
-use Rattle.api_replies.specs.Ids.{is_id, is_id_char}
+use Rattle.api_replies.specs.Ids.{is_id}
 use Rattle.session.specs.Houses.{AreNames}
 use Rattle.rdf_server.specs.Words.{AreIds, AreOptions, IsStdio, kept_orders}
 

@@ -2,4 +2,8 @@ pub mod Programs
 pub mod Readings
 pub mod ServeWords
 pub mod Serving
+pub mod WorkDoors
+pub mod WorkTexts
+pub mod WorkWords
+pub mod Workloads
 pub mod Words

@@ -4,7 +4,7 @@ use Rattle.journal.specs.declared.entry.Mark.{Mark}
 use Rattle.journal.specs.declared.limits.Limits.{Limits}
 use Rattle.session.specs.Ends.{IsSession}
 use Rattle.session.specs.Marks.{Journals, Moves}
-use Rattle.session.specs.Sending.{Puts}
+use Rattle.rdf_io.specs.Sending.{Puts}
 use Rattle.session.specs.Turns.{ground}
 use Rattle.session.specs.declared.report.SessionEnd.{SessionEnd}
 use Rattle.session.specs.declared.report.SessionEnd.TheVariants.{Done, Refused, ReadFault, WriteFault, Limit, Memory}

@@ -82,7 +82,7 @@ fn number_in(text: &str) -> Option<u64>
 }
 
 /// The number from 1 to `most` that a word is.
-fn number_of(word: &Text, most: u64) -> Option<u64>
+pub(crate) fn number_of(word: &Text, most: u64) -> Option<u64>
     ensures some { IfSome result (λ n. word.now ≡ decimal n) }
     ensures range { IfSome result (λ n. (1 ≤ n) × (n ≤ most)) }
     ensures none { IfNone result ((n : ℕ) → 1 ≤ n → n ≤ most → word.now ≡ decimal n → ⊥) }

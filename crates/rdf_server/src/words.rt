@@ -1,53 +1,16 @@
 //! The words of the program.
-ghost use Rattle.std.specs.Prelude.{◌≡◌, ◌≤◌, ◌<◌, ◌↔◌, ◌∷◌, ℕ, List, Contains, codes, length, map, nat_le, IsTrue, IfOk, IfSome, IfNone};
-ghost use Rattle.std.specs.List.{list_all};
-ghost use Rattle.std.specs.Str.{chars};
+ghost use Rattle.std.specs.Prelude.{◌≡◌, ◌≤◌, ◌<◌, ◌↔◌, ◌∷◌, ℕ, List, Contains, codes, length, map, IsTrue, IfOk, IfSome, IfNone};
 ghost use Rattle.quad_index.specs.Letters.{IsArrangement, letter_byte};
-ghost use Rattle.api_replies.specs.Ids.{is_id, is_id_char};
 ghost use Rattle.session.specs.Houses.{AreNames};
 ghost use Rattle.rdf_server.specs.Words.{AreIds, AreOptions, IsStdio, kept_orders};
 
+use api_replies::is_id;
 use quad_index::{Order, Orders};
 use rdf_term::{Memory, Text};
 use std::alloc::Global;
 
 /// The most options.
 const MOST_OPTIONS: usize = 6;
-
-fn is_id_char(character: char) -> bool
-    ensures { result ≡ is_id_char character }
-{
-    (character.is_ascii_alphanumeric() || character == '_') || character == '-'
-}
-
-fn are_id_chars(text: &str) -> bool
-    ensures { result ≡ list_all is_id_char (chars text.now) }
-{
-    text.chars().all(|character| is_id_char(character))
-}
-
-/// Whether a text has at most 64 characters.
-fn is_short(text: &str) -> bool
-    ensures { result ≡ nat_le (length (chars text.now)) 64 }
-{
-    text.chars().count() <= 64
-}
-
-fn is_id_text(text: &str) -> bool
-    ensures { result ≡ is_id (chars text.now) }
-{
-    match text.chars().next() {
-        None => false,
-        Some(first) => first.is_ascii_alphanumeric() & is_short(text) & are_id_chars(text),
-    }
-}
-
-/// Whether a word is the ID of a repository.
-fn is_id(word: &Text) -> bool
-    ensures { result ≡ is_id word.now }
-{
-    is_id_text(word.as_str())
-}
 
 /// Whether each word is an ID that no later one repeats.
 fn are_ids(words: &[Text]) -> bool

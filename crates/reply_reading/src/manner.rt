@@ -1,9 +1,9 @@
 //! How the reply to a call is read.
 ghost use Rattle.std.specs.Prelude.{◌≡◌};
-ghost use Rattle.api_replies.specs.Parts.{kind_of};
 ghost use Rattle.reply_reading.specs.Manners.{ask_manner, manner_of, names_manner, op_manner, query_manner, truth_manner};
 
 use api_calls::Call;
+use api_replies::kind_of;
 use journal::{Ask, NamesOp, Op};
 use media::Form;
 use nquads::Kind;
@@ -32,21 +32,6 @@ pub enum Manner {
     Prefix,
     /// That it is done, whatever the body is.
     Nothing,
-}
-
-/// Whether a body of quads in this form names the graphs.
-fn kind_of(form: Form) -> Kind
-    ensures { result ≡ kind_of form }
-{
-    match form {
-        Form::NTriples | Form::PlainTriples => Kind::Triples,
-        Form::NQuads
-        | Form::XNQuads
-        | Form::ResultsJson
-        | Form::Json
-        | Form::Boolean
-        | Form::PlainText => Kind::Quads,
-    }
 }
 
 fn truth_manner(form: Form) -> Manner

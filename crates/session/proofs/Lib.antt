@@ -5,7 +5,6 @@ pub mod GrowthLemmas
 pub mod HouseLemmas
 pub mod LawLemmas
 pub mod MarkLemmas
-pub mod SendLemmas
 pub mod ServeLemmas
 pub mod SessionLemmas
 pub mod StepLemmas

@@ -7,7 +7,7 @@ use Rattle.http_frame.specs.Messages.{SeenRequest, SeenResponse}
 use Rattle.http_frame.specs.declared.message.Head.{Head}
 use Rattle.session.specs.Answering.{Answers, AnswersBy, IsWritten}
 use Rattle.session.specs.Marks.{Journals, mark_at}
-use Rattle.session.specs.Sending.{IsPartOf, Puts}
+use Rattle.rdf_io.specs.Sending.{IsPartOf, Puts}
 use Rattle.session.specs.Steps.{MakesTurn, Marked}
 use Rattle.session.specs.Turns.{Ground, sent}
 use Rattle.session.specs.declared.answer.Answered.{Answered as AnsweredRequest}

@@ -6,7 +6,7 @@ use Rattle.journal.specs.Laws.{ReplyReadsNoLaterEntry}
 use Rattle.http_frame.specs.Streams.{IsStream}
 use Rattle.session.specs.Ends.{Ends, IsSession}
 use Rattle.session.specs.Marks.{Journals, AllBegin, Below, Moves}
-use Rattle.session.specs.Sending.{Puts, IsPartOf}
+use Rattle.rdf_io.specs.Sending.{Puts, IsPartOf}
 use Rattle.session.specs.Steps.{IsStop, IsStep, Marked}
 use Rattle.session.specs.Turns.{ground, IsTurn, Turns, turn_marks, turn_text}
 use Rattle.session.specs.declared.report.SessionEnd.{SessionEnd}
@@ -15,7 +15,7 @@ use Rattle.session.specs.declared.report.Turn.{Turn}
 use Rattle.session.specs.declared.requests.Step.{Step}
 use Rattle.session.specs.declared.requests.Step.TheVariants.{Answered, Closed, Lost, Stopped}
 use Rattle.session.proofs.MarkLemmas.{moves_more, all_begin}
-use Rattle.session.proofs.SendLemmas.{puts_none, puts_more}
+use Rattle.rdf_io.proofs.SendLemmas.{puts_none, puts_more}
 use Rattle.session.proofs.StopLemmas.{part_behind}
 use Rattle.session.proofs.TurnLemmas.{turns_later, turns_more}
 

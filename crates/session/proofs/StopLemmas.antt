@@ -11,7 +11,7 @@ use Rattle.http_frame.specs.declared.fault.FrameFault.{FrameFault}
 use Rattle.http_frame.specs.declared.fault.FrameFault.TheVariants.{BadHead, BadHost, BadBody, Coding, BodyTooLong, Truncated, ReadFault as ReadFrame, Memory as FrameMemory}
 use Rattle.http_frame.specs.declared.message.Head.{Head}
 use Rattle.session.specs.Refusals.{Asks, asked, unasked, MayAsk, IsCutOff, in_head, in_body, gone_text, refusal_text}
-use Rattle.session.specs.Sending.{IsPartOf}
+use Rattle.rdf_io.specs.Sending.{IsPartOf}
 use Rattle.session.specs.Steps.{IsGoing, IsRefusing, IsServed, IsStep, IsStop, IsStopping, MakesTurn}
 use Rattle.session.specs.Turns.{Ground, IsTurn, sent}
 use Rattle.session.specs.declared.report.SessionEnd.{SessionEnd}

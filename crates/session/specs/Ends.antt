@@ -2,7 +2,7 @@
 use Rattle.std.specs.Prelude.{◌≡◌, ◌⊎◌, ℕ, ◌≤◌, ◌<◌, Bool, true, false, List, [], ◌++◌, length, Option}
 use Rattle.journal.specs.declared.entry.Mark.{Mark}
 use Rattle.session.specs.Refusals.{IsRefusal, IsGone, IsCutOff}
-use Rattle.session.specs.Sending.{IsPartOf}
+use Rattle.rdf_io.specs.Sending.{IsPartOf}
 use Rattle.session.specs.Turns.{Ground, Turns}
 use Rattle.session.specs.declared.report.SessionEnd.{SessionEnd}
 use Rattle.session.specs.declared.report.SessionEnd.TheVariants.{Done, Refused, ReadFault, WriteFault, Limit, Memory}

@@ -6,7 +6,6 @@ pub mod Houses
 pub mod Laws
 pub mod Marks
 pub mod Refusals
-pub mod Sending
 pub mod Steps
 pub mod Stores
 pub mod Turns

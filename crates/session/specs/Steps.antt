@@ -9,7 +9,7 @@ use Rattle.http_frame.specs.declared.fault.FrameFault.TheVariants.{BadHead, BadH
 use Rattle.session.specs.Causes.{source_broke, sink_broke}
 use Rattle.session.specs.Marks.{Journals, Below, Moves, mark_at}
 use Rattle.session.specs.Refusals.{IsRefusal, IsGone, IsCutOff, gone_text, refusal_text}
-use Rattle.session.specs.Sending.{IsPartOf}
+use Rattle.rdf_io.specs.Sending.{IsPartOf}
 use Rattle.session.specs.Turns.{Ground, IsRight, IsTurn, turn_marks, turn_text, sent}
 use Rattle.session.specs.declared.report.SessionEnd.{SessionEnd}
 use Rattle.session.specs.declared.report.SessionEnd.TheVariants.{Done, Refused, ReadFault, WriteFault, Limit, Memory}

@@ -9,7 +9,6 @@ mod local;
 mod refusal;
 mod report;
 mod requests;
-mod send;
 mod store;
 mod visit;
 

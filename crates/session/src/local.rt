@@ -4,7 +4,7 @@ ghost use Rattle.iso_txn.specs.Repository.{AreAllowed};
 ghost use Rattle.session.specs.Causes.{Caused, sink_broke, source_broke};
 ghost use Rattle.session.specs.Ends.{IsSession};
 ghost use Rattle.session.specs.Marks.{AllGrowBy, Moves};
-ghost use Rattle.session.specs.Sending.{Puts};
+ghost use Rattle.rdf_io.specs.Sending.{Puts};
 ghost use Rattle.session.specs.Turns.{ground};
 ghost use Rattle.session.specs.Houses.{AreNames, AreOf, IsOwn, house_journals, journals_of, new_repo};
 

@@ -15,14 +15,13 @@ ghost use Rattle.session.specs.Causes.{Caused, sink_broke, source_broke};
 ghost use Rattle.session.specs.Ends.{IsSession};
 ghost use Rattle.session.specs.Marks.{Moves};
 ghost use Rattle.session.specs.Refusals.{refusal_text};
-ghost use Rattle.session.specs.Sending.{Puts, Sends};
+ghost use Rattle.rdf_io.specs.Sending.{Puts, Sends};
 ghost use Rattle.session.specs.Steps.{IsGoing, IsRefusing, IsRoom, IsServed, IsStep, IsStopping, Marked, is_read_fault, sink_broke_in, source_broke_in};
 ghost use Rattle.session.specs.Turns.{ground, sent};
 
 use crate::answer::{Written, answer_request, is_bodiless};
 use crate::refusal::refusal_text;
 use crate::report::{SessionEnd, Turn};
-use crate::send::send;
 use crate::store::Store;
 use crate::visit::Visit;
 use api_replies::{Short, write_short};
@@ -30,7 +29,7 @@ use http_frame::{
     FrameFault, Frames, Head, Request, continue_of, heads_and_bodies_are_frames, write_response,
 };
 use journal::{Mark, reply_reads_no_later_entry};
-use rdf_io::{Failed, Gate, GateMark, Sink, Source};
+use rdf_io::{Failed, Gate, GateMark, Sink, Source, send};
 use rdf_term::{Bytes, Memory, Text};
 use std::alloc::Global;
 

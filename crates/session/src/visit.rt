@@ -3,7 +3,7 @@ ghost use Rattle.std.specs.Prelude.{◌≡◌, ℕ, List, [], Some, None, IfOk, 
 ghost use Rattle.session.specs.Causes.{Caused, sink_broke, source_broke};
 ghost use Rattle.session.specs.Ends.{IsSession};
 ghost use Rattle.session.specs.Marks.{Moves};
-ghost use Rattle.session.specs.Sending.{Puts};
+ghost use Rattle.rdf_io.specs.Sending.{Puts};
 ghost use Rattle.session.specs.Steps.{IsRoom};
 ghost use Rattle.session.specs.Turns.{ground};
 

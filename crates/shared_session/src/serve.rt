@@ -3,7 +3,7 @@ ghost use Rattle.std.specs.Prelude.{◌≡◌, ℕ, List, Some, false};
 ghost use Rattle.session.specs.Causes.{Caused, sink_broke, source_broke};
 ghost use Rattle.session.specs.Ends.{IsSession};
 ghost use Rattle.session.specs.Marks.{Moves};
-ghost use Rattle.session.specs.Sending.{Puts};
+ghost use Rattle.rdf_io.specs.Sending.{Puts};
 ghost use Rattle.session.specs.Turns.{ground};
 ghost use Rattle.shared_session.specs.Houses.{AreLegal, IsOf, ReadAsIfAlone, journals, numbers};
 

@@ -9,7 +9,7 @@ use Rattle.rdf_io.specs.Doors.{Link, GivesFirst, StartsEmpty, HandsBack}
 use Rattle.session.specs.Causes.{source_broke}
 use Rattle.session.specs.Ends.{IsSession}
 use Rattle.session.specs.Marks.{Journals, AllBegin, Moves}
-use Rattle.session.specs.Sending.{Puts}
+use Rattle.rdf_io.specs.Sending.{Puts}
 use Rattle.session.specs.Turns.{Ground, ground}
 use Rattle.session.specs.declared.report.SessionEnd.{SessionEnd}
 use Rattle.session.specs.declared.report.SessionReport.{SessionReport}

@@ -1,4 +1,4 @@
-use Rattle.std.proofs.Common.{◌∷◌, ◌++◌, [], if◌then◌else◌, ap, sym, subst, ◌∙◌}
+use Rattle.std.proofs.Common.{◌∷◌, ap, sym, subst, ◌∙◌}
 use Rattle.rdf_server.specs.ServeWords.{kind_of, kind_word, value_word}
 use Rattle.rdf_server.proofs.ServeParts.{Left, left_last, left_order, left_other}
 use Rattle.rdf_server.proofs.serve_words.named_orders.Goals.{in-Order+in_ok-add_to, in_default-option}

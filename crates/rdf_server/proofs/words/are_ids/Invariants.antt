@@ -1,4 +1,4 @@
-use Rattle.std.proofs.Common.{◌≡◌, length}
+use Rattle.std.proofs.Common.{length}
 use Rattle.rdf_server.specs.Words.{AreIds}
 use Rattle.rdf_server.proofs.words.are_ids.Given as goal
 

@@ -2,7 +2,7 @@ use Rattle.std.proofs.Common.{◌++◌, Ok, Err, ap, sym, refl}
 use Rattle.http_frame.specs.Wire.{continue_of}
 use Rattle.session.specs.Refusals.{asked}
 use Rattle.session.specs.Turns.{ground}
-use Rattle.session.proofs.SendLemmas.{puts_more}
+use Rattle.rdf_io.proofs.SendLemmas.{puts_more}
 use Rattle.session.proofs.StopLemmas.{step_served, stop_asked, stop_at_body}
 use Rattle.session.proofs.requests.serve_head.Goals as goal
 

@@ -1,5 +1,5 @@
 use Rattle.std.proofs.Common.{[], refl}
-use Rattle.session.proofs.SendLemmas.{puts_none}
+use Rattle.rdf_io.proofs.SendLemmas.{puts_none}
 use Rattle.session.proofs.StopLemmas.{stop_at_head}
 use Rattle.session.proofs.requests.serve_one.Goals as goal
 

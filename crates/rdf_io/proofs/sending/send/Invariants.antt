@@ -1,6 +1,6 @@
 use Rattle.std.proofs.Common.{◌≡◌, ◌-◌, ◌≤◌, length, take}
-use Rattle.session.specs.Sending.{Puts}
-use Rattle.session.proofs.send.send.Given as goal
+use Rattle.rdf_io.specs.Sending.{Puts}
+use Rattle.rdf_io.proofs.sending.send.Given as goal
 
 abbrev pub decreases-loop-at : goal.decreases-loop-at
 decreases-loop-at g l = length l.text - l.at

@@ -1,7 +1,7 @@
 -- What a sink took.
 use Rattle.std.proofs.Common.{◌≡◌, ℕ, ◌+◌, List, [], ◌++◌, take, drop, Option, Some, None, sym, ap, ◌∙◌, append_assoc, append-nil, take-add, take-append-drop}
 use Rattle.std.specs.Io.KnownBytes.{Appends, Keeps}
-use Rattle.session.specs.Sending.{Puts, IsPartOf}
+use Rattle.rdf_io.specs.Sending.{Puts, IsPartOf}
 
 pub puts_none : (a : Option (List ℕ)) → Puts a a []
 puts_none a = λ t e. e ∙ ap Some (sym (append-nil t))

@@ -1,6 +1,6 @@
 use Rattle.std.proofs.Common.{◌+◌, take, arith, length-drop, ◌∙◌}
-use Rattle.session.proofs.SendLemmas.{puts_part, puts_kept, part_of}
-use Rattle.session.proofs.send.send.Goals as goal
+use Rattle.rdf_io.proofs.SendLemmas.{puts_part, puts_kept, part_of}
+use Rattle.rdf_io.proofs.sending.send.Goals as goal
 
 pub loop-at-preserved : goal.loop-at-preserved
 loop-at-preserved g c = record {

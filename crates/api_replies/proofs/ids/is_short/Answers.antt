@@ -1,7 +1,7 @@
 use Rattle.std.proofs.Common.{sym, ap, ◌∙◌, length, nat_le}
 use Rattle.std.specs.Str.{chars}
 use Rattle.std.proofs.lemmas.Str.{Chars-Drains, encodes-chars}
-use Rattle.rdf_server.proofs.words.is_short.Goals as goal
+use Rattle.api_replies.proofs.ids.is_short.Goals as goal
 
 pub returns : goal.returns
 returns c =

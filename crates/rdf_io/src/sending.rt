@@ -1,9 +1,9 @@
 //! Texts to a sink.
 ghost use Rattle.std.specs.Prelude.{◌≤◌, length, drop};
 ghost use Rattle.rdf_io.specs.Causes.{HasCause, WritesPart};
-ghost use Rattle.session.specs.Sending.{Sends};
+ghost use Rattle.rdf_io.specs.Sending.{Sends};
 
-use rdf_io::{Failed, Sink};
+use crate::{Failed, Sink};
 
 fn write_from<K: Sink>(sink: &mut K, text: &[u8], at: usize) -> Result<usize, Failed>
     requires { at ≤ length text.now }
