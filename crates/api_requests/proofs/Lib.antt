@@ -1,0 +1,17 @@
+pub mod ByteLemmas
+pub mod ChangeLemmas
+pub mod DecideLemmas
+pub mod EveryLemmas
+pub mod Examples
+pub mod FormLemmas
+pub mod Given
+pub mod GraphLemmas
+pub mod LawLemmas
+pub mod ParameterLemmas
+pub mod ReadBack
+pub mod ReadLemmas
+pub mod SendingLemmas
+pub mod TargetLemmas
+pub mod TestLemmas
+pub mod WalkLemmas
+pub mod WriteLemmas

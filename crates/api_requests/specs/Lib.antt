@@ -1,0 +1,5 @@
+pub mod Changes
+pub mod Laws
+pub mod Requests
+pub mod Spellable
+pub mod Tests

@@ -1,0 +1,16 @@
+//! The client's side of calls: which calls some request gives, and the request that is written for one.
+#![tactic(auto)]
+
+mod call;
+mod documents;
+mod laws;
+mod pairs;
+mod sending;
+mod sent;
+mod spellable;
+mod target;
+mod terms;
+mod writes;
+
+pub use call::{is_spellable, write_call};
+pub use laws::{given_is_spellable, spellable_where_given, written_is_read_back};
