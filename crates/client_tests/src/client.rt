@@ -1,0 +1,139 @@
+//! The client in memory.
+ghost use Rattle.std.specs.Prelude.{◌≡◌, IfOk};
+
+use rdf_cli::run_client;
+use rdf_io::{MemDial, MemSink, MemSource};
+use rdf_server::run_stdio;
+use rdf_term::{Bytes, Memory, Text};
+use std::alloc::Global;
+
+pub const WORDS: [&str; 4] = ["--server", "h:1", "--repository", "r"];
+
+/// What a run answered: its status, the bytes that it sent, where its link was handed back, and what it
+/// printed.
+#[derive(Drop)]
+pub struct Ran {
+    pub status: u8,
+    pub sent: Option<String>,
+    pub printed: String,
+}
+
+impl Ran {
+    pub fn is(&self, status: u8, printed: &str) -> bool {
+        self.status == status && self.printed.as_str() == printed
+    }
+}
+
+/// How the ends around a client behave.
+#[derive(Clone, Copy)]
+pub struct Outside {
+    /// The most bytes of each read, or 0 for all that fit.
+    pub cut: usize,
+    pub dial_fails: Option<u64>,
+    pub input_fails: Option<u64>,
+    pub source_fails: Option<u64>,
+    pub sink_fails: Option<u64>,
+    pub out_fails: Option<u64>,
+}
+
+pub const CALM: Outside = Outside {
+    cut: 0,
+    dial_fails: None,
+    input_fails: None,
+    source_fails: None,
+    sink_fails: None,
+    out_fails: None,
+};
+
+fn listed(alloc: Global, number: Option<u64>) -> Result<Vec<u64>, Memory> {
+    let mut numbers = Vec::new(alloc);
+    if let Some(number) = number {
+        numbers.push(number)?;
+    }
+    Ok(numbers)
+}
+
+fn source(alloc: Global, bytes: &[u8], cut: usize, fails: Option<u64>) -> Result<MemSource, Memory>
+    ensures { IfOk result (λ it. (it.calls ≡ 0) × (it.count ≡ 0)) }
+{
+    let mut all = Bytes::new(alloc);
+    all.append(bytes)?;
+    let cuts = if cut == 0 {
+        Vec::new(alloc)
+    } else {
+        vec![in alloc; cut; bytes.len()]?
+    };
+    Ok(MemSource::new(all, cuts, listed(alloc, fails)?))
+}
+
+fn texts(alloc: Global, words: &[&str]) -> Result<Vec<Text>, Memory> {
+    let mut texts = Vec::new(alloc);
+    for word in words {
+        texts.push(Text::from_chars(alloc, word)?)?;
+    }
+    Ok(texts)
+}
+
+/// A run with these words.
+pub fn run_words(
+    alloc: Global,
+    words: &[&str],
+    script: &[u8],
+    responses: &[u8],
+    outside: Outside,
+) -> Result<Ran, Memory> {
+    let words = texts(alloc, words)?;
+    let mut input = source(alloc, script, outside.cut, outside.input_fails)?;
+    let answers = source(alloc, responses, outside.cut, outside.source_fails)?;
+    let sink = MemSink::new(alloc, listed(alloc, outside.sink_fails)?);
+    let mut dial = MemDial::new((answers, sink), listed(alloc, outside.dial_fails)?);
+    let mut out = MemSink::new(alloc, listed(alloc, outside.out_fails)?);
+    let status = run_client(alloc, &words, &mut dial, &mut input, &mut out);
+    let sent = match dial.taken(0) {
+        Some(bytes) => Some(String::from_utf8_lossy(alloc, bytes)?),
+        None => None,
+    };
+    Ok(Ran {
+        status,
+        sent,
+        printed: String::from_utf8_lossy(alloc, out.taken())?,
+    })
+}
+
+/// A run of a script on the repository `r` over these responses.
+pub fn run(alloc: Global, script: &str, responses: &str, outside: Outside) -> Result<Ran, Memory> {
+    run_words(
+        alloc,
+        &WORDS,
+        script.as_bytes(),
+        responses.as_bytes(),
+        outside,
+    )
+}
+
+/// What the server with one empty repository `r` answers to these bytes.
+fn answers(alloc: Global, sent: &str) -> Result<String, Memory> {
+    let mut source = source(alloc, sent.as_bytes(), 0, None)?;
+    let mut sink = MemSink::new(alloc, Vec::new(alloc));
+    let words = texts(alloc, &["stdio", "r"])?;
+    run_stdio(alloc, &words, &mut source, &mut sink);
+    Ok(String::from_utf8_lossy(alloc, sink.taken())?)
+}
+
+/// The run of a script against the server, and the server's responses: those to the bytes that the client
+/// sends over them.
+pub fn play(alloc: Global, script: &str) -> Result<(Ran, String), Memory> {
+    let mut responses = String::new(alloc);
+    for _ in 0..100 {
+        let ran = run(alloc, script, responses.as_str(), CALM)?;
+        let next = match &ran.sent {
+            Some(sent) => answers(alloc, sent.as_str())?,
+            None => String::new(alloc),
+        };
+        if next.as_str() == responses.as_str() {
+            return Ok((ran, responses));
+        }
+        responses = next;
+    }
+    Ok((run(alloc, script, "", CALM)?, responses))
+}

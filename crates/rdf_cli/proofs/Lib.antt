@@ -1,0 +1,4 @@
+mod Examples
+pub mod LawLemmas
+pub mod RunLemmas
+pub mod WordLemmas
