@@ -129,12 +129,24 @@ const TAGGED: &str =
 const TWO: &str =
     "{\"head\":{\"vars\":[\"b\",\"a\"]},\"results\":{\"bindings\":[{\"a\":{\"type\":\"bnode\",\"value\":\"x\"},\"b\":{\"type\":\"uri\",\"value\":\"u:v\"}}]}}";
 
+const ESCAPED: &str =
+    "{\"head\":{\"vars\":[\"o\"]},\"results\":{\"bindings\":[{\"o\":{\"type\":\"literal\",\"value\":\"\\\"/\\\\\\n\\u0001\"}}]}}";
+
 #[test]
 fn any_spelling_is_read(rt: HostRuntime) {
     let alloc = rt.alloc();
     for (text, plain) in [
         (LITERALS, LITERALS),
         (TWO, TWO),
+        (ESCAPED, ESCAPED),
+        (
+            "{\"head\":{\"vars\":[\"o\"]},\"results\":{\"bindings\":[{\"o\":{\"type\":\"literal\",\"value\":\"\\u0022\\/\\\\\\u000a\\u0001\"}}]}}",
+            ESCAPED,
+        ),
+        (
+            "{\"head\":{\"vars\":[\"b\",\"a\"]},\"results\":{\"bindings\":[{\"b\":{\"type\":\"uri\",\"value\":\"u:v\"},\"a\":{\"type\":\"bnode\",\"value\":\"x\"}}]}}",
+            TWO,
+        ),
         (
             "{\"results\":{\"bindings\":[{\"b\":{\"value\":\"u:v\",\"type\":\"uri\",\"datatype\":1},\"a\":{\"value\":\"x\",\"type\":\"bnode\"}}],\"ordered\":true},\"head\":{\"link\":[],\"vars\":[\"b\",\"a\"]},\"x\":null}",
             TWO,

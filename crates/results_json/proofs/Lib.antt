@@ -8,3 +8,4 @@ pub mod TableLemmas
 pub mod TermLemmas
 pub mod TextLemmas
 pub mod TokenLemmas
+pub mod WrittenLemmas

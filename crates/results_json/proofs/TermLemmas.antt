@@ -1,6 +1,5 @@
 -- The terms that objects spell.
-use Rattle.std.proofs.Common.{◌≡◌, ◌≢◌, ℕ, List, Bool, true, false, Some, None, refl, sym, ap, ap₂, ◌∙◌, codes, encode_utf8_all, true≢false, inl, inr, ◌&&◌}
-use Rattle.std.specs.Prelude.{not}
+use Rattle.std.proofs.Common.{◌≡◌, ◌≢◌, ℕ, List, false, Some, None, refl, sym, ap, ap₂, ◌∙◌, codes, encode_utf8_all, true≢false, inl, inr}
 use Rattle.std.specs.Str.{bytes_eq}
 use Rattle.std.proofs.lemmas.Slice.Eq.{bytes_eq-Decides}
 use Rattle.std.proofs.lemmas.Str.{encodes_same}

@@ -4,3 +4,4 @@ pub mod Member
 pub mod Reading
 pub mod Rows
 pub mod Tables
+pub mod Written

@@ -16,6 +16,7 @@ mod table;
 mod term_value;
 mod truth;
 mod writer;
+mod written;
 
 pub use fault::ResultFault;
 pub use laws::{one_table_reading, one_truth_reading, tables_read_again, truths_read_again};

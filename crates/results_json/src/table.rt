@@ -14,6 +14,7 @@ use crate::laws::one_table_reading;
 use crate::names::names_of;
 use crate::rows::{are_rows, rows_of};
 use crate::writer::{put_head, put_results};
+use crate::written::read_written;
 use json::Writer;
 use query_model::Table;
 use rdf_term::{Bytes, Memory};
@@ -68,6 +69,9 @@ fn table_of(alloc: Global, text: &[u8]) -> Result<Table, ResultFault>
     ensures reading { IsTableReading text.now result }
     ensures numbered { IfErr result (λ fault. IsNumbered fault) }
 {
+    if let Some(table) = read_written(alloc, text)? {
+        return Ok(table);
+    }
     match json_value(alloc, text)? {
         None => Err(ResultFault::NotJson),
         Some(value) => table_in(alloc, &value),
