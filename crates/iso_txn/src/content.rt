@@ -45,6 +45,15 @@ fn are_few(changes: u64, base: u64) -> bool {
     changes <= 1_000 + base / 8
 }
 
+/// How many changes were made after some more. They count as too many for any base where nothing is
+/// left of what was there before: so a first upload, and what replaces everything, is a base at once.
+fn changes_after(changes: u64, more: u64, is_new: bool) -> u64 {
+    if is_new {
+        return u64::MAX;
+    }
+    changes.saturating_add(more)
+}
+
 impl Content {
     /// No quads, kept in these orders.
     pub(crate) fn new(alloc: Global, orders: &Orders) -> Result<Content, Memory>
@@ -112,13 +121,14 @@ impl Content {
         if quads > limits.quads || bytes > limits.bytes {
             return Ok(None);
         }
+        let is_new = delta.removed.len() as u64 == self.quads;
         let set = delta.changes(self.alloc)?;
         let changes = Arc::new(self.alloc, set)?;
         let shared = Arc::try_clone(&changes)?;
         self.branch.push_shared(shared)?;
         self.quads = quads;
         self.bytes = bytes;
-        self.changes = self.changes.saturating_add(changes.len());
+        self.changes = changes_after(self.changes, changes.len(), is_new);
         Ok(Some(changes))
     }
 

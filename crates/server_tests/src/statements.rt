@@ -115,6 +115,36 @@ fn get_lists_what_is_selected(rt: HostRuntime) -> Result<(), Memory> {
     Ok(())
 }
 
+/// The absent graph, one that has a quad, and so many that have none, as parameters.
+fn contexts(alloc: Global, more: u32) -> Result<String, Memory> {
+    let mut contexts = String::from_str(alloc, "context=null&context=<http://e/g2>")?;
+    for number in 0..more {
+        let one = format!(in alloc; "&context=_:n{number}")?;
+        contexts.push_str(one.as_str())?;
+    }
+    Ok(contexts)
+}
+
+#[test]
+fn few_and_many_contexts_are_listed_and_counted(rt: HostRuntime) -> Result<(), Memory> {
+    let alloc = rt.alloc();
+    let lines =
+        "<http://e/s> <http://e/p> \"1\" .\n<http://e/s> <http://e/q> \"3\" <http://e/g2> .\n";
+    for more in [14u32, 15, 60] {
+        let contexts = contexts(alloc, more)?;
+        for (resource, kind, told) in [("statements", QUADS, lines), ("size", TEXT, "2")] {
+            let line = format!(in alloc; "GET r/{resource}?{contexts}")?;
+            let asked = request(alloc, line.as_str(), "", "")?;
+            let told = answer(alloc, OK, kind, told)?;
+            assert!(rt;
+                is_answered(alloc, asked.as_str(), told.as_str(), THREE)?,
+                "{line}"
+            );
+        }
+    }
+    Ok(())
+}
+
 #[test]
 fn the_first_bad_parameter_is_named(rt: HostRuntime) -> Result<(), Memory> {
     let alloc = rt.alloc();

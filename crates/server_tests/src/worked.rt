@@ -93,7 +93,7 @@ fn escaped_upload_is_listed_canonically(rt: HostRuntime) -> Result<(), Memory> {
     Ok(())
 }
 
-const FOUR_LINES: [Exchange; 2] = [
+const FOUR_LINES: [Exchange; 3] = [
     (
         "POST r/statements",
         QUADS,
@@ -103,6 +103,7 @@ const FOUR_LINES: [Exchange; 2] = [
         "bad line 3",
     ),
     NONE,
+    ("GET r/statements", "", "", OK, QUADS, ""),
 ];
 
 #[test]
