@@ -1,11 +1,13 @@
--- A call is spellable exactly where some request gives it.
-use Rattle.std.proofs.Common.{◌≡◌, ℕ, List, [], ◌∷◌, Result, Ok, Err, IfOk, refl, sym, ap, ◌∙◌, subst, arith}
+-- A call is spellable exactly where some request gives it, and what is written of its request is read as it.
+use Rattle.std.proofs.Common.{◌≡◌, ◌<◌, ◌≤◌, ◌^◌, ℕ, List, [], ◌∷◌, Ok, refl, sym, ap, ◌∙◌, subst, arith, length}
 use Rattle.api_calls.specs.declared.call.Call.{Call}
 use Rattle.api_calls.specs.declared.call.Call.TheVariants.{Protocol, Repositories, On}
+use Rattle.http_frame.specs.Laws.{WrittenIsFrame}
 use Rattle.http_frame.specs.Messages.{SeenRequest}
-use Rattle.repo_api.specs.Calls.{IsCallOf}
-use Rattle.api_requests.specs.Laws.{IsAmongRepositories, GivenIsSpellable, SpellableWhereGiven, WrittenIsReadBack}
+use Rattle.http_frame.specs.RequestWire.{IsSpelled}
+use Rattle.api_requests.specs.Laws.{IsAmongRepositories, GivenIsSpellable, RequestsAreSpelled, SpellableWhereGiven, WrittenBytesAreReadBack, WrittenIsReadBack}
 use Rattle.api_requests.specs.Requests.{SeenSending, request_of, request_with, sent}
+use Rattle.api_requests.specs.Spellable.{IsHost}
 
 -- the repository of a call, where it has one
 abbrev repositories_of : Call → List (List ℕ)
@@ -22,10 +24,20 @@ pub where_given : WrittenIsReadBack → GivenIsSpellable → SpellableWhereGiven
 where_given read given call =
     (λ x. (request_of call [], repositories_of call, read call [] (repositories_of call) x (among call)), λ y. given y.0 y.1 call y.2)
 
--- what is written is read as the call
-pub read_of : {E : Type 0} (call : Call) (host : List ℕ) (sending : SeenSending) (r : Result SeenRequest E) → sending ≡ sent call → IfOk r (λ it. it ≡ request_with host sending)
-    → ((repos : List (List ℕ)) → IsAmongRepositories repos call → IsCallOf (request_of call host) repos (Ok call))
-    → IfOk r (λ it. (repos : List (List ℕ)) → IsAmongRepositories repos call → IsCallOf it repos (Ok call))
-read_of call host sending (Ok it) same is read =
-    λ repos among. subst (λ (written : SeenRequest). IsCallOf written repos (Ok call)) (sym (is ∙ ap (request_with host) same)) (read repos among)
-read_of call host sending (Err fault) same is read = tt
+-- what holds of the request of a call holds of the one that is written
+pub of_written : (P : SeenRequest → Type 0) (call : Call) (host : List ℕ) (sending : SeenSending) (it : SeenRequest) → sending ≡ sent call → it ≡ request_with host sending
+    → P (request_of call host) → P it
+of_written P call host sending it same is p = subst P (sym (is ∙ ap (request_with host) same)) p
+
+-- and it is spelled
+pub spelled_of : RequestsAreSpelled → (call : Call) (host : List ℕ) → IsHost host → (sending : SeenSending) (it : SeenRequest) → sending ≡ sent call → it ≡ request_with host sending
+    → length it.body < 2 ^ 64 → IsSpelled it
+spelled_of spelled call host to sending it same is fits =
+    let few : length (request_of call host).body < 2 ^ 64 = subst (λ (r : SeenRequest). length r.body < 2 ^ 64) (is ∙ ap (request_with host) same) fits in
+    of_written IsSpelled call host sending it same is (spelled call host to few)
+
+-- a call is read from the bytes of its request
+pub in_bytes : WrittenIsReadBack → RequestsAreSpelled → WrittenIsFrame → WrittenBytesAreReadBack
+in_bytes read spelled frame call host repos is to keeps there =
+    let few = keeps.body in
+    (request_of call host, frame (request_of call host) (spelled call host to (omega arith)) keeps, read call host repos is there)

@@ -11,7 +11,9 @@ pub mod ParameterLemmas
 pub mod ReadBack
 pub mod ReadLemmas
 pub mod SendingLemmas
+pub mod SpelledLemmas
 pub mod TargetLemmas
 pub mod TestLemmas
+pub mod VisibleLemmas
 pub mod WalkLemmas
 pub mod WriteLemmas

@@ -6,7 +6,7 @@ use Rattle.api_requests.specs.declared.sending.Verb.{Verb}
 use Rattle.api_requests.specs.declared.sending.Verb.TheVariants.{Get, Post, Put, Delete}
 use Rattle.api_requests.specs.Requests.{verb_text}
 
-own_bytes : (verb : Verb) → encode_utf8_all (verb_text verb) ≡ verb_text verb
+pub own_bytes : (verb : Verb) → encode_utf8_all (verb_text verb) ≡ verb_text verb
 unfolding lib.Utf8.encode
 own_bytes Get = refl
 own_bytes Post = refl

@@ -32,7 +32,7 @@ unfolding should_percent_encode
 question_is_escaped = refl
 
 -- what is kept is no byte that is escaped
-other : (n b : ℕ) → should_percent_encode ESCAPED n ≡ true → should_percent_encode ESCAPED b ≡ false → b ≢ n
+pub other : (n b : ℕ) → should_percent_encode ESCAPED n ≡ true → should_percent_encode ESCAPED b ≡ false → b ≢ n
 other n b escaped kept same = let e : should_percent_encode ESCAPED n ≡ false = subst (λ m. should_percent_encode ESCAPED m ≡ false) same kept in cc
 
 no_slash_in_escape : (b : ℕ) → IsEscapeByte b → is_slash b ≡ false

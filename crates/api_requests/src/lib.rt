@@ -13,4 +13,7 @@ mod terms;
 mod writes;
 
 pub use call::{is_spellable, write_call};
-pub use laws::{given_is_spellable, spellable_where_given, written_is_read_back};
+pub use laws::{
+    given_is_spellable, requests_are_spelled, spellable_where_given, written_bytes_are_read_back,
+    written_is_read_back,
+};
