@@ -1,5 +1,5 @@
 //! The bytes of a script, which come from a source, up to the end of a line.
-ghost use Rattle.std.specs.Prelude.{◌≡◌, true, false, ℕ, ◌+◌, ◌-◌, ◌≤◌, ◌<◌, List, [], ◌++◌, length, take, drop, IfOk, IfSome, IfNone, OnErr};
+ghost use Rattle.std.specs.Prelude.{◌≡◌, true, false, ℕ, ◌+◌, ◌-◌, ◌≤◌, ◌<◌, List, [], ◌++◌, length, take, drop, IfOk, IfSome, IfNone, IsOk, OnErr};
 ghost use Rattle.std.specs.Io.KnownBytes.{Keeps, ReadConsumes};
 ghost use Rattle.rdf_io.specs.Causes.{HasCause};
 ghost use Rattle.client_script.specs.Inputs.{KeepsStream};
@@ -48,6 +48,7 @@ fn read_at<S: Source>(source: &mut S, bytes: &mut [u8], at: usize) -> Result<usi
     ensures bound { IfOk result (λ n. at + n ≤ length bytes.new) }
     ensures bytes { ReadConsumes (S.left source.old) (S.left source.new) result (drop at bytes.new) }
     ensures cause { HasCause (S.faults source.old) (S.faults source.new) result }
+    ensures sound { S.sound source.old → IsOk result × S.sound source.new }
 {
     source.read(&mut bytes[at..])
 }
@@ -70,6 +71,7 @@ fn read_behind<S: Source>(source: &mut S, bytes: &mut [u8], at: usize) -> Result
     ensures err { OnErr result (take at bytes.new ≡ take at bytes.old) }
     ensures err_source { OnErr result (Keeps (S.left source.old) (S.left source.new)) }
     ensures cause { HasCause (S.faults source.old) (S.faults source.new) result }
+    ensures sound { S.sound source.old → IsOk result × S.sound source.new }
 {
     match read_at(source, bytes, at) {
         Ok(count) => Ok(count),
@@ -91,6 +93,7 @@ fn refill<S: Source>(
     ensures err { OnErr result (take len bytes.new ≡ take len (drop start bytes.old)) }
     ensures err_source { OnErr result (Keeps (S.left source.old) (S.left source.new)) }
     ensures cause { HasCause (S.faults source.old) (S.faults source.new) result }
+    ensures sound { S.sound source.old → IsOk result × S.sound source.new }
 {
     move_front(bytes, start, len);
     match read_behind(source, bytes, len) {
@@ -150,6 +153,7 @@ impl Input {
         ensures err { OnErr result (self.new ≡ self.old) }
         ensures err_source { OnErr result (Keeps (S.left source.old) (S.left source.new)) }
         ensures cause { HasCause (S.faults source.old) (S.faults source.new) result }
+        ensures sound { S.sound source.old → IsOk result × S.sound source.new }
     {
         let result = refill(source, &mut self.bytes, self.start, self.len);
         self.start = 0;
@@ -164,6 +168,7 @@ impl Input {
         ensures stream { KeepsStream self.old (S.left source.old) self.new (S.left source.new) }
         ensures wait { IfOk result (Waits self.new (S.left source.new)) }
         ensures cause { HasCause (S.faults source.old) (S.faults source.new) result }
+        ensures sound { S.sound source.old → IsOk result × S.sound source.new }
     {
         let mut seen = 0;
         'wait: loop {

@@ -86,6 +86,7 @@ impl Script {
         ensures number { IfOk result (λ it. OnSome it (self.new.number ≡ self.old.number + 1)) }
         ensures stream { OnErr result (KeepsStream self.old.held (I.left source.old) self.new.held (I.left source.new)) }
         ensures cause { Caused (has_read_fault result) (I.faults source.old) (I.faults source.new) }
+        ensures sound { I.sound source.old → (has_read_fault result ≡ false) × I.sound source.new }
     {
         match self.input.await_line(source) {
             Err(_) => Err(ScriptFault::ReadFault),

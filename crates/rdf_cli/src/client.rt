@@ -54,6 +54,7 @@ fn run_on<D: Dial, I: Source, O: Sink>(
     ensures dials { Caused (result == 8) (D.faults dial.old) (D.faults dial.new) }
     ensures reads { OneBroke (result == 2) (I.faults input.old) (I.faults input.new) (D.broken_sources dial.old) (D.broken_sources dial.new) }
     ensures writes { OneBroke (result == 3) (O.faults out.old) (O.faults out.new) (D.broken_sinks dial.old) (D.broken_sinks dial.new) }
+    ensures sound { I.sound input.old → I.sound input.new }
 {
     match dial.dial(server) {
         Err(_) => 8,
@@ -109,6 +110,7 @@ pub fn run_client<D: Dial, I: Source, O: Sink>(
     ensures dials { Caused (result == 8) (D.faults dial.old) (D.faults dial.new) }
     ensures reads { OneBroke (result == 2) (I.faults input.old) (I.faults input.new) (D.broken_sources dial.old) (D.broken_sources dial.new) }
     ensures writes { OneBroke (result == 3) (O.faults out.old) (O.faults out.new) (D.broken_sinks dial.old) (D.broken_sinks dial.new) }
+    ensures sound { I.sound input.old → I.sound input.new }
 {
     match client_words(alloc, words) {
         Err(_) => 6,

@@ -57,6 +57,11 @@ pub fn run_script<I: Source, S: Source, K: Sink, O: Sink>(
     // A fault is answered only where its object failed in this call, and none is passed over.
     ensures reads { OneCaused (read_broke result) (I.faults input.old) (I.faults input.new) (S.faults source.old) (S.faults source.new) }
     ensures writes { OneCaused (write_broke result) (K.faults sink.old) (K.faults sink.new) (O.faults out.old) (O.faults out.new) }
+
+    // What is told never to fail goes on being told so, and where both are, no fault of reading is answered.
+    ensures input { I.sound input.old → I.sound input.new }
+    ensures source { S.sound source.old → S.sound source.new }
+    ensures sound { I.sound input.old → S.sound source.old → read_broke result ≡ false }
 {
     let Ok((mut script, mut frames)) = open(alloc) else {
         return ClientEnd::Memory;

@@ -124,6 +124,7 @@ fn answer<S: Source, K: Sink, O: Sink>(
     ensures named { IfOk result IsNamedOrNone }
     ensures frames { OnOk result (frames.new.fault ≡ None) }
     ensures source { Caused (ends_so read_broke result) (S.faults source.old) (S.faults source.new) }
+    ensures sound { S.sound source.old → (ends_so read_broke result ≡ false) × S.sound source.new }
     ensures writes { OneCaused (ends_so write_broke result) (K.faults sink.old) (K.faults sink.new) (O.faults out.old) (O.faults out.new) }
 {
     match exchange(alloc, call, host, frames, source, sink) {
@@ -161,6 +162,7 @@ fn act<S: Source, K: Sink, O: Sink>(
     ensures named { IfOk result IsNamedOrNone }
     ensures frames { OnOk result (frames.new.fault ≡ None) }
     ensures source { Caused (ends_so read_broke result) (S.faults source.old) (S.faults source.new) }
+    ensures sound { S.sound source.old → (ends_so read_broke result ≡ false) × S.sound source.new }
     ensures writes { OneCaused (ends_so write_broke result) (K.faults sink.old) (K.faults sink.new) (O.faults out.old) (O.faults out.new) }
 {
     match command.next_call(alloc, repo, txn) {
@@ -197,6 +199,9 @@ pub fn turn<I: Source, S: Source, K: Sink, O: Sink>(
     ensures named { IfOk result IsNamedOrNone }
     ensures frames { OnOk result (frames.new.fault ≡ None) }
     ensures reads { OneCaused (ends_so read_broke result) (I.faults input.old) (I.faults input.new) (S.faults source.old) (S.faults source.new) }
+    ensures input { I.sound input.old → I.sound input.new }
+    ensures source { S.sound source.old → S.sound source.new }
+    ensures sound { I.sound input.old → S.sound source.old → ends_so read_broke result ≡ false }
     ensures writes { OneCaused (ends_so write_broke result) (K.faults sink.old) (K.faults sink.new) (O.faults out.old) (O.faults out.new) }
 {
     match script.next_command(input) {

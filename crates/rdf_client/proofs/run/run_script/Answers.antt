@@ -31,6 +31,8 @@ lines-init g c = record {
   source = refl;
   sink = refl;
   out = refl;
+  sound_input = λ h. h;
+  sound_source = λ h. h;
 }
 
 pub turn-turned-requires-clause-repo : goal.turn-turned-requires-clause-repo
@@ -58,6 +60,8 @@ lines-preserved g c = record {
   source = c.in-Ok-turned.ensures.reads.1 ∙ c.lines.invariant.source;
   sink = c.in-Ok-turned.ensures.writes.0 ∙ c.lines.invariant.sink;
   out = c.in-Ok-turned.ensures.writes.1 ∙ c.lines.invariant.out;
+  sound_input = λ h. c.in-Ok-turned.ensures.input (c.lines.invariant.sound_input h);
+  sound_source = λ h. c.in-Ok-turned.ensures.source (c.lines.invariant.sound_source h);
 }
 
 pub returns-in-Err-clause-run : goal.returns-in-Err-clause-run

@@ -26,4 +26,6 @@ invariant-lines g l = record {
   source : g.S.Source.faults l.source ≡ g.S.Source.faults l.initial.source;
   sink : g.K.Sink.faults l.sink ≡ g.K.Sink.faults l.initial.sink;
   out : g.O.Sink.faults l.out ≡ g.O.Sink.faults l.initial.out;
+  sound_input : g.I.Source.sound l.initial.input → g.I.Source.sound l.input;
+  sound_source : g.S.Source.sound l.initial.source → g.S.Source.sound l.source;
 }

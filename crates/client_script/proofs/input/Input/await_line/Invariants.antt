@@ -12,4 +12,5 @@ invariant-wait g l = record {
   within : l.seen ≤ length l.self;
   none : has_lf (take l.seen l.self) ≡ false;
   faults : g.S.Source.faults l.source ≡ g.S.Source.faults l.initial.source;
+  sound : g.S.Source.sound l.initial.source → g.S.Source.sound l.source;
 }
