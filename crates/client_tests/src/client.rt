@@ -1,13 +1,18 @@
 //! The client in memory.
 ghost use Rattle.std.specs.Prelude.{◌≡◌, IfOk};
 
+use api_replies::is_id;
 use rdf_cli::run_client;
+use rdf_client::{ClientEnd, is_host, run_script};
 use rdf_io::{MemDial, MemSink, MemSource};
 use rdf_server::run_stdio;
 use rdf_term::{Bytes, Memory, Text};
 use std::alloc::Global;
 
 pub const WORDS: [&str; 4] = ["--server", "h:1", "--repository", "r"];
+
+/// The words of a server with that repository.
+pub const SERVED: [&str; 2] = ["stdio", "r"];
 
 /// What a run answered: its status, the bytes that it sent, where its link was handed back, and what it
 /// printed.
@@ -111,23 +116,73 @@ pub fn run(alloc: Global, script: &str, responses: &str, outside: Outside) -> Re
     )
 }
 
-/// What the server with one empty repository `r` answers to these bytes.
-fn answers(alloc: Global, sent: &str) -> Result<String, Memory> {
-    let mut source = source(alloc, sent.as_bytes(), 0, None)?;
+/// How a script ended that was run without words, and what it sent and printed.
+#[derive(Drop)]
+pub struct Direct {
+    pub end: ClientEnd,
+    pub sent: String,
+    pub printed: String,
+}
+
+/// A run of a script on the repository `r` over these responses, without words and a dial. It is none only
+/// where `r` is no ID or `h:1` is no host.
+pub fn run_directly(
+    alloc: Global,
+    script: &str,
+    responses: &str,
+) -> Result<Option<Direct>, Memory> {
+    let repo = Text::from_chars(alloc, "r")?;
+    let host = Text::from_chars(alloc, "h:1")?;
+    if !is_id(&repo) {
+        return Ok(None);
+    }
+    if !is_host(&host) {
+        return Ok(None);
+    }
+    let mut input = source(alloc, script.as_bytes(), 0, None)?;
+    let mut answers = source(alloc, responses.as_bytes(), 0, None)?;
     let mut sink = MemSink::new(alloc, Vec::new(alloc));
-    let words = texts(alloc, &["stdio", "r"])?;
+    let mut out = MemSink::new(alloc, Vec::new(alloc));
+    let end = run_script(
+        alloc,
+        &repo,
+        &host,
+        &mut input,
+        &mut answers,
+        &mut sink,
+        &mut out,
+    );
+    Ok(Some(Direct {
+        end,
+        sent: String::from_utf8_lossy(alloc, sink.taken())?,
+        printed: String::from_utf8_lossy(alloc, out.taken())?,
+    }))
+}
+
+/// What a server of these words, whose repositories are empty at first, answers to these bytes.
+pub fn answers(alloc: Global, served: &[&str], sent: &[u8]) -> Result<String, Memory> {
+    let mut source = source(alloc, sent, 0, None)?;
+    let mut sink = MemSink::new(alloc, Vec::new(alloc));
+    let words = texts(alloc, served)?;
     run_stdio(alloc, &words, &mut source, &mut sink);
     Ok(String::from_utf8_lossy(alloc, sink.taken())?)
 }
 
-/// The run of a script against the server, and the server's responses: those to the bytes that the client
-/// sends over them.
-pub fn play(alloc: Global, script: &str) -> Result<(Ran, String), Memory> {
+/// The run of a script on a repository against a server of these words, and the server's responses: those
+/// to the bytes that the client sends over them.
+pub fn play(
+    alloc: Global,
+    served: &[&str],
+    repository: &str,
+    script: &str,
+) -> Result<(Ran, String), Memory> {
+    let words = ["--server", "h:1", "--repository", repository];
+    let script = script.as_bytes();
     let mut responses = String::new(alloc);
     for _ in 0..100 {
-        let ran = run(alloc, script, responses.as_str(), CALM)?;
+        let ran = run_words(alloc, &words, script, responses.as_bytes(), CALM)?;
         let next = match &ran.sent {
-            Some(sent) => answers(alloc, sent.as_str())?,
+            Some(sent) => answers(alloc, served, sent.as_bytes())?,
             None => String::new(alloc),
         };
         if next.as_str() == responses.as_str() {
@@ -135,5 +190,5 @@ pub fn play(alloc: Global, script: &str) -> Result<(Ran, String), Memory> {
         }
         responses = next;
     }
-    Ok((run(alloc, script, "", CALM)?, responses))
+    Ok((run_words(alloc, &words, script, b"", CALM)?, responses))
 }

@@ -9,4 +9,6 @@ mod faults;
 #[cfg(test)]
 mod responses;
 #[cfg(test)]
+mod rounds;
+#[cfg(test)]
 mod scripts;

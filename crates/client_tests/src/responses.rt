@@ -1,6 +1,7 @@
 //! Responses that the server does not spell so, refusals, and those that end early.
-use crate::client::{CALM, Outside, WORDS, play, run, run_words};
+use crate::client::{CALM, Outside, Ran, SERVED, WORDS, play, run, run_words};
 use rdf_term::Memory;
+use std::alloc::Global;
 
 #[test]
 fn other_spellings(rt: HostRuntime) -> Result<(), Memory> {
@@ -22,60 +23,75 @@ fn other_spellings(rt: HostRuntime) -> Result<(), Memory> {
     Ok(())
 }
 
+/// The texts of the interface's refusals, that of a conflict apart, which is a line of N-Quads.
+const REFUSALS: [(u16, &str, &str); 26] = [
+    (400, "Bad Request", "bad head"),
+    (400, "Bad Request", "bad host"),
+    (400, "Bad Request", "bad body"),
+    (400, "Bad Request", "truncated body"),
+    (400, "Bad Request", "bad parameter action"),
+    (400, "Bad Request", "bad parameter query"),
+    (400, "Bad Request", "bad line 3"),
+    (400, "Bad Request", "long line 2"),
+    (400, "Bad Request", "bad query at 0"),
+    (400, "Bad Request", "unsupported at 9"),
+    (400, "Bad Request", "unknown prefix at 12"),
+    (400, "Bad Request", "bad namespace"),
+    (404, "Not Found", "no such resource"),
+    (404, "Not Found", "no such repository"),
+    (404, "Not Found", "no such transaction"),
+    (404, "Not Found", "no such prefix"),
+    (405, "Method Not Allowed", "method not allowed"),
+    (406, "Not Acceptable", "not acceptable"),
+    (413, "Content Too Large", "body too long"),
+    (415, "Unsupported Media Type", "unsupported media type"),
+    (429, "Too Many Requests", "too many transactions"),
+    (501, "Not Implemented", "unsupported transfer coding"),
+    (503, "Service Unavailable", "out of memory"),
+    (507, "Insufficient Storage", "repository full"),
+    (507, "Insufficient Storage", "too many rows"),
+    (507, "Insufficient Storage", "journal full"),
+];
+
+/// A run of two lines, the first of which is refused.
+fn run_refused(alloc: Global, status: u16, reason: &str, text: &str) -> Result<Ran, Memory> {
+    let length = text.len();
+    let response = format!(in alloc;
+        "HTTP/1.1 {status} {reason}\r\nContent-Type: text/plain;charset=UTF-8\r\nContent-Length: {length}\r\n\r\n{text}"
+    )?;
+    run(alloc, "size\nsize\n", response.as_str(), CALM)
+}
+
 #[test]
 fn refusals(rt: HostRuntime) -> Result<(), Memory> {
     let alloc = rt.alloc();
-    for (status, text, printed) in [
+    for (status, reason, text) in REFUSALS {
+        let ran = run_refused(alloc, status, reason, text)?;
+        let printed = format!(in alloc; "refused {status} {text}\n")?;
+        assert!(rt; ran.is(1, printed.as_str()), "{status} {text}");
+    }
+    Ok(())
+}
+
+/// A text with a line feed at its end, an empty one, and one of another server; and a refusal by the server.
+#[test]
+fn other_refusals(rt: HostRuntime) -> Result<(), Memory> {
+    let alloc = rt.alloc();
+    for (status, reason, text, printed) in [
         (
-            "400 Bad Request",
-            "bad parameter query",
-            "refused 400 bad parameter query\n",
-        ),
-        (
-            "404 Not Found",
-            "no such repository",
-            "refused 404 no such repository\n",
-        ),
-        ("405 Method Not Allowed", "", "refused 405 \n"),
-        (
-            "406 Not Acceptable",
-            "not acceptable",
-            "refused 406 not acceptable\n",
-        ),
-        (
-            "409 Conflict",
+            409,
+            "Conflict",
             "<http://e/s> <http://e/p> \"1\" .\n",
             "refused 409 <http://e/s> <http://e/p> \"1\" .\n",
         ),
-        (
-            "415 Unsupported Media Type",
-            "unsupported media type",
-            "refused 415 unsupported media type\n",
-        ),
-        (
-            "429 Too Many Requests",
-            "too many transactions",
-            "refused 429 too many transactions\n",
-        ),
-        (
-            "503 Service Unavailable",
-            "out of memory",
-            "refused 503 out of memory\n",
-        ),
-        (
-            "507 Insufficient Storage",
-            "repository full",
-            "refused 507 repository full\n",
-        ),
-        ("302 Found", "elsewhere", "refused 302 elsewhere\n"),
+        (405, "Method Not Allowed", "", "refused 405 \n"),
+        (302, "Found", "elsewhere", "refused 302 elsewhere\n"),
     ] {
-        let length = text.len();
-        let response = format!(in alloc;
-            "HTTP/1.1 {status}\r\nContent-Length: {length}\r\n\r\n{text}"
-        )?;
-        let ran = run(alloc, "size\nsize\n", response.as_str(), CALM)?;
+        let ran = run_refused(alloc, status, reason, text)?;
         assert!(rt; ran.is(1, printed), "{status}");
     }
+    let ran = play(alloc, &["stdio", "s"], "r", "size\nsize\n")?.0;
+    assert!(rt; ran.is(1, "refused 404 no such repository\n"));
     Ok(())
 }
 
@@ -106,7 +122,7 @@ fn responses_without_a_reply(rt: HostRuntime) -> Result<(), Memory> {
 fn responses_cut_short(rt: HostRuntime) -> Result<(), Memory> {
     let alloc = rt.alloc();
     let script = "begin SNAPSHOT\nquery ASK {}\n";
-    let (ran, responses) = play(alloc, script)?;
+    let (ran, responses) = play(alloc, &SERVED, "r", script)?;
     let printed = "begun 0-4\ntrue\n";
     assert!(rt; ran.is(0, printed));
     for end in 0..responses.len() {

@@ -1,5 +1,6 @@
 //! Scripts against the server in memory.
-use crate::client::{CALM, Outside, WORDS, play, run, run_words};
+use crate::client::{CALM, Outside, SERVED, WORDS, play, run, run_directly, run_words};
+use rdf_client::ClientEnd;
 use rdf_term::{Bytes, Memory};
 use std::alloc::Global;
 use std::process::Abort;
@@ -11,24 +12,38 @@ const WORKED: &str =
 const SENT: &str =
     "POST /rdf4j-server/repositories/r/transactions?isolation-level=SERIALIZABLE HTTP/1.1\r\nHost: h:1\r\n\r\nPUT /rdf4j-server/repositories/r/transactions/0-5?action=ADD HTTP/1.1\r\nHost: h:1\r\nContent-Type: application/n-quads\r\nContent-Length: 32\r\n\r\n<http://e/s> <http://e/p> \"1\" .\nPUT /rdf4j-server/repositories/r/transactions/0-5?action=QUERY HTTP/1.1\r\nHost: h:1\r\nAccept: application/sparql-results+json\r\nContent-Type: application/sparql-query\r\nContent-Length: 40\r\n\r\nSELECT ?o WHERE { ?s <http://e/p> ?o . }PUT /rdf4j-server/repositories/r/transactions/0-5?action=COMMIT HTTP/1.1\r\nHost: h:1\r\n\r\nGET /rdf4j-server/repositories/r/size HTTP/1.1\r\nHost: h:1\r\n\r\n";
 
+/// What is printed for it.
+const PRINTED: &str = "begun 0-5\ndone\n?o\n\"1\"\nrows 1\ncommitted\nsize 1\n";
+
 #[test]
 fn the_worked_script(rt: HostRuntime) -> Result<(), Memory> {
     let alloc = rt.alloc();
-    let printed = "begun 0-5\ndone\n?o\n\"1\"\nrows 1\ncommitted\nsize 1\n";
-    let (ran, responses) = play(alloc, WORKED)?;
-    assert!(rt; ran.is(0, printed));
+    let (ran, responses) = play(alloc, &SERVED, "r", WORKED)?;
+    assert!(rt; ran.is(0, PRINTED));
     for cut in [0, 1, 7] {
         let again = run(alloc, WORKED, responses.as_str(), Outside { cut, ..CALM })?;
-        assert!(rt; again.is(0, printed), "{cut}");
+        assert!(rt; again.is(0, PRINTED), "{cut}");
         assert!(rt; again.sent.as_deref() == Some(SENT), "{cut}");
     }
+    Ok(())
+}
+
+/// The same by the call under the program.
+#[test]
+fn the_worked_script_directly(rt: HostRuntime) -> Result<(), Memory> {
+    let alloc = rt.alloc();
+    let responses = play(alloc, &SERVED, "r", WORKED)?.1;
+    let ran = run_directly(alloc, WORKED, responses.as_str())?;
+    assert!(rt;
+        matches!(&ran, Some(ran) if ran.end == ClientEnd::Done && ran.sent.as_str() == SENT && ran.printed.as_str() == PRINTED)
+    );
     Ok(())
 }
 
 /// Each script ends against the server with its status, and prints its text.
 fn expect<R: Abort>(rt: &R, alloc: Global, table: &[(&str, u8, &str)]) -> Result<(), Memory> {
     for (script, status, printed) in table {
-        let ran = play(alloc, script)?.0;
+        let ran = play(alloc, &SERVED, "r", script)?.0;
         assert_eq!(rt; ran.printed.as_str(), *printed, "{script}");
         assert_eq!(rt; ran.status, *status, "{script}");
     }
@@ -130,5 +145,16 @@ fn a_script_of_many_lines(rt: HostRuntime) -> Result<(), Memory> {
         alloc, count,
     )?;
     assert!(rt; ran.sent.as_deref() == Some(sent.as_str()));
+    Ok(())
+}
+
+#[test]
+fn a_script_of_a_million_lines(rt: HostRuntime) -> Result<(), Memory> {
+    let alloc = rt.alloc();
+    let most = "\n".repeat(alloc, 1_000_000)?;
+    let ran = run(alloc, most.as_str(), "", CALM)?;
+    assert!(rt; ran.is(0, "") && ran.sent.as_deref() == Some(""));
+    let more = format!(in alloc; "{most}\n")?;
+    assert!(rt; run(alloc, more.as_str(), "", CALM)?.is(7, "bad script line 1000001\n"));
     Ok(())
 }

@@ -1,13 +1,14 @@
 //! Connections on loopback. Where nothing else is said, a peer connects and writes before the doors are
 //! served, and reads behind that: what is sent fits the buffers of the system.
-ghost use Rattle.std.specs.Prelude.{◌≡◌, All, IfOk, false, vec_len};
+ghost use Rattle.std.specs.Prelude.{◌≡◌, All, IfOk, false, true, vec_len};
+ghost use Rattle.rdf_io.specs.Causes.{Rose};
 
 use crate::house::{Came, Ended, LAST_SIZE, NO_CONTENT, post, serve, told};
-use rdf_io::{Door, OpenGate, TcpDoor};
-use rdf_term::Memory;
+use rdf_io::{Dial, Door, OpenGate, Source, TcpDial, TcpDoor, send};
+use rdf_term::{Memory, Text};
 use session::SessionEnd;
 use std::alloc::Global;
-use std::io::{Write, read_to_string};
+use std::io::{Read, Write, read_to_string};
 use std::net::{Shutdown, TcpListener, TcpStream};
 use std::sync::Wait;
 use std::test::Fail;
@@ -193,5 +194,90 @@ fn eight_peers_with_a_hundred_requests_each(rt: HostRuntime) -> Result<(), Fail>
     for peer in peers {
         assert!(rt; has_all(alloc, peer)?);
     }
+    Ok(())
+}
+
+/// The address of a listener, as a dial is given it.
+fn address_of(alloc: Global, listener: &TcpListener) -> Result<Text, Fail> {
+    let address = format!(in alloc; "{}", listener.local_addr()?)?;
+    Ok(Text::from_chars(alloc, address.as_str())?)
+}
+
+/// Takes the next connection of a listener, reads the four bytes of a question, answers, and ends.
+fn answer_one(listener: &TcpListener) -> io::Result<(TcpStream, [u8; 4])> {
+    let (mut peer, _) = listener.accept()?;
+    let mut question = [0; 4];
+    peer.read_exact(&mut question)?;
+    peer.write_all(b"reply")?;
+    peer.shutdown(Shutdown::Write)?;
+    Ok((peer, question))
+}
+
+#[test]
+fn a_dial_gives_a_link_for_one_exchange(rt: HostRuntime) -> Result<(), Fail> {
+    let alloc = rt.alloc();
+    let listener = TcpListener::bind(&rt, "127.0.0.1:0")?;
+    let address = address_of(alloc, &listener)?;
+    let mut dial = TcpDial::new(&rt);
+    let Ok((mut source, mut sink)) = dial.dial(&address) else {
+        assert!(rt; false, "no link");
+        return Ok(());
+    };
+    assert_eq!(rt; send(&mut sink, b"call"), Ok(()));
+    let (mut peer, question) = answer_one(&listener)?;
+    assert_eq!(rt; question, *b"call");
+    let mut answer = [0; 8];
+    assert_eq!(rt; source.read(&mut answer), Ok(5));
+    assert_eq!(rt; answer, *b"reply\0\0\0");
+    assert_eq!(rt; source.read(&mut answer), Ok(0));
+    dial.give_back(source, sink);
+    // Both ends of the link are closed.
+    assert!(rt; read_to_string(alloc, &mut peer)?.is_empty());
+    Ok(())
+}
+
+/// Whether a dial gives no link to this address. Then it counts the fault, and may be asked again.
+fn gives_none<'a>(dial: &mut TcpDial<'a, HostRuntime>, address: &Text) -> bool
+    requires { ⟦<TcpDial<'a, HostRuntime> as Dial>⟧.given dial.old ≡ 0 }
+    ensures again { result ≡ true → ⟦<TcpDial<'a, HostRuntime> as Dial>⟧.given dial.new ≡ 0 }
+    ensures counted { result ≡ true → Rose (⟦<TcpDial<'a, HostRuntime> as Dial>⟧.faults dial.old) (⟦<TcpDial<'a, HostRuntime> as Dial>⟧.faults dial.new) }
+{
+    dial.dial(address).is_err()
+}
+
+/// Texts that are no HOST:PORT.
+const NO_ADDRESSES: [&str; 5] = [
+    "",
+    "127.0.0.1",
+    "127.0.0.1:",
+    "127.0.0.1:port",
+    "127.0.0.1:65536",
+];
+
+#[test]
+fn a_dial_to_no_address_gives_no_link(rt: HostRuntime) -> Result<(), Fail> {
+    for text in NO_ADDRESSES {
+        let address = Text::from_chars(rt.alloc(), text)?;
+        assert!(rt; gives_none(&mut TcpDial::new(&rt), &address), "{text}");
+    }
+    Ok(())
+}
+
+/// The address of a port on which nobody listens any more.
+fn left_address(rt: &HostRuntime) -> Result<Text, Fail> {
+    address_of(rt.alloc(), &TcpListener::bind(rt, "127.0.0.1:0")?)
+}
+
+#[test]
+fn a_dial_is_asked_until_it_gives_a_link(rt: HostRuntime) -> Result<(), Fail> {
+    let left = left_address(&rt)?;
+    let listener = TcpListener::bind(&rt, "127.0.0.1:0")?;
+    let address = address_of(rt.alloc(), &listener)?;
+    let mut dial = TcpDial::new(&rt);
+    if !gives_none(&mut dial, &left) {
+        assert!(rt; false, "a link to nobody");
+        return Ok(());
+    }
+    assert!(rt; dial.dial(&address).is_ok());
     Ok(())
 }
