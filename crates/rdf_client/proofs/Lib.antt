@@ -1,3 +1,4 @@
+pub mod AnswerLemmas
 pub mod HearLemmas
 pub mod HostLemmas
 pub mod OneLemmas

@@ -81,7 +81,7 @@ done_body true = refl
 done_body false = refl
 
 -- a response of status 204 has no body
-body_kept : (call : Call) (repos : List (List ℕ)) (reply : Reply)
+pub body_kept : (call : Call) (repos : List (List ℕ)) (reply : Reply)
     → (if (response call repos reply).status == 204 then [] else (response call repos reply).body) ≡ (response call repos reply).body
 unfolding response
 body_kept Protocol repos reply = refl

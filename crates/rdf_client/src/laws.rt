@@ -1,6 +1,6 @@
 //! Laws of exchanges and of runs, each as the contract of a function that does nothing.
 ghost use Rattle.rdf_client.specs.Laws.{AnsweredOrNot, OneRun};
-ghost use Rattle.rdf_client.specs.Served.{ReplyIsPrinted, WrittenIsGot};
+ghost use Rattle.rdf_client.specs.Served.{AnswersArePrinted, RefusalIsGot, ReplyIsPrinted, WrittenIsGot};
 
 use client_script::{commands_are_valid, one_command};
 use http_frame::{response_frames_are_determined, written_responses_are_frames};
@@ -43,4 +43,23 @@ pub fn replies_are_printed()
     commands_are_valid();
     written_responses_are_frames();
     replies_read_again();
+}
+
+/// What a session writes for a reply that refuses a call is got by [`exchange`](crate::exchange) as the
+/// status and the text of its response, whatever follows it. Its response is to keep the limits of a
+/// reader.
+pub fn refusals_are_got()
+    ensures { RefusalIsGot }
+{
+    written_responses_are_frames();
+}
+
+/// Over what a session writes for the answers to a script, up to the first one that refuses, a run sends
+/// the script's calls in order, prints what belongs to each answer, and ends as the answers do. By
+/// [`one_run`] each run over these bytes that no fault and no want of memory ends does so.
+pub fn answers_are_printed()
+    ensures { AnswersArePrinted }
+{
+    replies_are_printed();
+    refusals_are_got();
 }

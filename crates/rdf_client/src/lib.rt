@@ -12,5 +12,8 @@ mod turn;
 
 pub use calling::{exchange, is_host};
 pub use end::ClientEnd;
-pub use laws::{answered_or_not, one_run, replies_are_printed, written_replies_are_got};
+pub use laws::{
+    answered_or_not, answers_are_printed, one_run, refusals_are_got, replies_are_printed,
+    written_replies_are_got,
+};
 pub use run::run_script;
