@@ -36,7 +36,7 @@ distributed false false false = refl
 and_false : (a : Bool) → false ≡ (false && a)
 and_false a = refl
 
-has-matched_by : (quads : List Statement) (ps : List Pattern) (q : Statement) → has quad_cmp (matched_by quads ps) q ≡ (list_any (λ p. matches p q) ps && has quad_cmp quads q)
+pub has-matched_by : (quads : List Statement) (ps : List Pattern) (q : Statement) → has quad_cmp (matched_by quads ps) q ≡ (list_any (λ p. matches p q) ps && has quad_cmp quads q)
 has-matched_by quads [] q = refl
 has-matched_by quads (p ∷ ps) q =
     list_any-append (eq_by_cmp quad_cmp q) (filter (matches p) quads) (matched_by quads ps)

@@ -1,8 +1,6 @@
--- How many layers a branch has, and how large each is.
+-- How many layers a stack has, and how large each is.
 use Rattle.std.specs.Prelude.{◌≡◌, ℕ, ◌+◌, ◌*◌, ◌^◌, ◌<◌, ◌≤◌, List, [], ◌∷◌, ◌++◌, length, take, slice_index_or}
-use Rattle.std.specs.List.Sorted.{IsStrictlySortedBy}
 use Rattle.rdf_term.specs.Statement.{Statement}
-use Rattle.rdf_term.specs.Order.{quad_cmp}
 use Rattle.change_set.specs.declared.change.Change.{Change}
 use Rattle.change_set.specs.Content.{applied}
 use Rattle.branch.specs.Layers.{layered}
@@ -12,11 +10,6 @@ pub record IsHalving (layers : List (List Change)) : Type 0 where
   pub some : (k : ℕ) (d : List Change) → k < length layers → 1 ≤ length (slice_index_or layers k d)
   pub small : (k : ℕ) (d : List Change) → k < length layers → length (slice_index_or layers k d) < 2 ^ 64
   pub twice : (k : ℕ) (d : List Change) → k + 1 < length layers → 2 * length (slice_index_or layers (k + 1) d) ≤ length (slice_index_or layers k d)
-
--- what a branch keeps: a base in order, and layers that halve
-pub record IsStacked (base : List Statement) (layers : List (List Change)) : Type 0 where
-  pub ascending : IsStrictlySortedBy quad_cmp base
-  pub halving : IsHalving layers
 
 -- of the layers those below a number stay, and the changes on top of these do what the others and then the new ones do
 pub record IsRaised (layers : List (List Change)) (set : List Change) (below : ℕ) (top : List Change) : Type 0 where

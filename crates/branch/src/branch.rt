@@ -5,9 +5,12 @@ ghost use Rattle.rdf_term.specs.Order.{quad_cmp};
 ghost use Rattle.quad_index.specs.Contents.{is_in};
 ghost use Rattle.change_set.specs.Content.{applied};
 ghost use Rattle.branch.specs.Deltas.{IsDelta};
+ghost use Rattle.branch.specs.Layers.{layered};
 ghost use Rattle.rdf_term.specs.declared.pattern.GraphPick.TheVariants as picks;
 
 use crate::deltas::Delta;
+use crate::stack::Stack;
+use crate::view::View;
 use crate::{counts, deltas, layers};
 use change_set::ChangeSet;
 use quad_index::Index;
@@ -25,24 +28,24 @@ use std::sync::Arc;
 pub struct Branch {
     alloc: Global,
     base: Arc<Index>,
-    layers: Vec<Arc<ChangeSet>>,
+    layers: Stack,
 }
 
 impl Model for Branch {
-    ghost use Rattle.std.specs.Prelude.{length, map};
-    ghost use Rattle.std.specs.Arc.{arc_value};
-    ghost use Rattle.branch.specs.Bounds.{IsStacked};
+    ghost use Rattle.std.specs.Prelude.{length};
+    ghost use Rattle.std.specs.List.Sorted.{IsStrictlySortedBy};
+    ghost use Rattle.rdf_term.specs.Order.{quad_cmp};
     ghost use Rattle.branch.specs.Layers.{Layered, layered};
 
     ghost Value = { Layered };
 
-    ghost view = { λ it. let layers = map arc_value it.layers.items in record { quads = layered it.base.value.quads layers; orders = it.base.value.orders; layers = length layers } };
+    ghost view = { λ it. record { quads = layered it.base.value.quads it.layers; orders = it.base.value.orders; layers = length it.layers } };
 
-    ghost invariant = { λ it. IsStacked it.base.value.quads (map arc_value it.layers.items) };
+    ghost invariant = { λ it. IsStrictlySortedBy quad_cmp it.base.value.quads };
 }
 
 /// The pattern that matches every quad.
-fn everything() -> Pattern
+pub(crate) fn everything() -> Pattern
     ensures { result ≡ record { s = None; p = None; o = None; c = picks.Any } }
 {
     Pattern {
@@ -65,7 +68,7 @@ impl Branch {
         Ok(Branch {
             alloc,
             base: Arc::new(alloc, base)?,
-            layers: Vec::new(alloc),
+            layers: Stack::new(alloc),
         })
     }
 
@@ -77,8 +80,22 @@ impl Branch {
         Ok(Branch {
             alloc: self.alloc,
             base: Arc::try_clone(&self.base)?,
-            layers: layers::share(self.alloc, self.layers.as_slice())?,
+            layers: self.layers.share()?,
         })
+    }
+
+    /// The content with a stack of change sets above it. It shares the base and all change sets, so that
+    /// no quad is copied and nothing is merged, and later calls on the branch or the stack leave it as it
+    /// is.
+    pub fn view(&self, own: &Stack) -> Result<View, Memory>
+        ensures quads { IfOk result (λ view. view.quads ≡ layered self.now.quads own.now) }
+        ensures orders { IfOk result (λ view. view.orders ≡ self.now.orders) }
+        ensures layers { IfOk result (λ view. view.layers ≡ self.now.layers + length own.now) }
+    {
+        let below = layers::share(self.alloc, self.layers.as_slice())?;
+        let layers = layers::share_onto(below, own.as_slice())?;
+        let base = Arc::try_clone(&self.base)?;
+        Ok(View::new(base, layers))
     }
 
     /// Applies a change set to the content. Without memory the branch stays as it was.
@@ -104,9 +121,7 @@ impl Branch {
         ensures layers { OnOk result (self.new.layers ≤ self.old.layers + 1) }
         ensures memory { OnErr result (self.new ≡ self.old) }
     {
-        // What takes memory comes first, so that the layers change where nothing can fail any more.
-        let pile = layers::pile_up(self.alloc, self.layers.as_slice(), set)?;
-        layers::put(&mut self.layers, pile)?;
+        self.layers.push_shared(set)?;
         Ok(())
     }
 
@@ -132,7 +147,7 @@ impl Branch {
         ensures most { result ≤ 64 }
         ensures ascending { IsStrictlySortedBy quad_cmp self.now.quads }
     {
-        self.layers.len()
+        self.layers.layers()
     }
 
     /// Whether a quad is in the content. It takes no memory.
@@ -159,17 +174,20 @@ impl Branch {
     pub fn is_empty(&self) -> bool
         ensures { IsTrue result ↔ (self.now.quads ≡ []) }
     {
-        self.count(&everything()) == 0
+        counts::is_empty(&self.base, self.layers.as_slice())
     }
 
-    /// An index with the content, in the orders of the base.
+    /// An index with the content, in the orders of the base. It takes the terms and the numbers of the
+    /// base's quads over, and looks at no quad of it that the change sets don't remove.
     pub fn fold(&self) -> Result<Index, Memory>
         ensures quads { IfOk result (λ index. index.quads ≡ self.now.quads) }
         ensures orders { IfOk result (λ index. index.orders ≡ self.now.orders) }
     {
-        let base = &self.base;
-        let quads = self.scan(self.alloc, &everything())?;
-        let index = base.with_quads(self.alloc, &quads)?;
+        let base: &Index = &self.base;
+        let set = layers::merged(self.alloc, self.layers.as_slice())?;
+        let added = set.scan(self.alloc, &everything())?;
+        let removed = deltas::candidates(self.alloc, base, &set)?;
+        let index = base.changed(self.alloc, &added, &removed)?;
         Ok(index)
     }
 }
@@ -178,8 +196,6 @@ impl Scan for Branch {
     ghost content = { λ branch. branch.quads };
 
     fn scan(&self, alloc: Global, pattern: &Pattern) -> Result<Quads, Memory> {
-        let found = self.base.scan(alloc, pattern)?;
-        let found = layers::found_in(alloc, pattern, found, self.layers.as_slice())?;
-        Ok(found)
+        layers::scan(alloc, &self.base, self.layers.as_slice(), pattern)
     }
 }

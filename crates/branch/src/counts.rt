@@ -3,7 +3,7 @@
 //! A quad that no layer names is in the set exactly where it is in the base and no removed pattern
 //! matches it. So those of the base that no removed pattern matches are counted by halves and where
 //! the patterns overlap, and the named quads are looked at one by one.
-ghost use Rattle.std.specs.Prelude.{◌≡◌, ◌^◌, ◌-◌, ◌&&◌, ◌||◌, not, length, filter, map, min};
+ghost use Rattle.std.specs.Prelude.{◌≡◌, ◌↔◌, ◌^◌, ◌-◌, ◌&&◌, ◌||◌, [], not, length, filter, map, min, IsTrue};
 ghost use Rattle.std.specs.Arc.{arc_value};
 ghost use Rattle.std.specs.List.{count_by};
 ghost use Rattle.std.specs.List.Sorted.{IsStrictlySortedBy};
@@ -16,6 +16,7 @@ ghost use Rattle.branch.specs.Layers.{layered};
 ghost use Rattle.branch.specs.Counts.{is_matched, is_matched_in, is_named_in, counted_of, counted_quads, is_counted_anew};
 ghost use Rattle.branch.specs.declared.counts.Counted.TheVariants.{Spared};
 
+use crate::branch::everything;
 use crate::layers;
 use change_set::{ChangeSet, Marked};
 use quad_index::{Index, Parts, Test};
@@ -199,4 +200,11 @@ pub(crate) fn count(base: &Index, layers: &[Arc<ChangeSet>], pattern: &Pattern) 
     };
     let spared = count_spared(base, pattern, layers);
     (spared - before.named_in(layers)).saturating_add(after.named_in(layers))
+}
+
+/// Whether the set above a base has no quad.
+pub(crate) fn is_empty(base: &Index, layers: &[Arc<ChangeSet>]) -> bool
+    ensures { IsTrue result ↔ (layered base.now.quads (map arc_value layers.now) ≡ []) }
+{
+    count(base, layers, &everything()) == 0
 }

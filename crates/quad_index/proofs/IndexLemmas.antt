@@ -60,7 +60,7 @@ known_graph : (terms : List Term) (i : ℕ) → i ≤ length terms → AllByRecu
 known_graph terms zero l = tt
 known_graph terms (suc i) l = (known_at terms i (omega arith), tt)
 
-known_code : (terms : List Term) (k : Code) → IsCode terms k → AllByRecursion (IsKnown terms) (terms_of (decode terms k))
+pub known_code : (terms : List Term) (k : Code) → IsCode terms k → AllByRecursion (IsKnown terms) (terms_of (decode terms k))
 known_code terms k c = (known_at terms k.first c.subject, (known_at terms k.second c.predicate, (known_at terms k.third c.object, known_graph terms k.fourth c.graph)))
 
 pub unknown : (terms : List Term) (codes : List Code) (q : Statement) → AllByRecursion (IsCode terms) codes → (AllByRecursion (IsKnown terms) (terms_of q) → ⊥) → is_in q (map (decode terms) codes) ≡ false

@@ -1,5 +1,5 @@
 //! The terms of a set of quads by their ranks.
-ghost use Rattle.std.specs.Prelude.{◌≡◌, ℕ, ◌<◌, ◌≤◌, true, false, length, map, fold, IfOk, OnOk, IfSome, IfNone};
+ghost use Rattle.std.specs.Prelude.{◌≡◌, ℕ, ◌<◌, ◌≤◌, ◌-◌, ◌^◌, ◌++◌, true, false, length, map, fold, IfOk, OnOk, IfSome, IfNone};
 ghost use Rattle.std.specs.List.{flat_map, AllByRecursion};
 ghost use Rattle.std.specs.Option.{option_copied};
 ghost use Rattle.std.specs.List.Sorted.{IsStrictlySortedBy};
@@ -131,6 +131,17 @@ fn copies(alloc: Global, seen: &BTreeSet<&Term>) -> Result<Vec<Term>, Memory>
     Ok(terms)
 }
 
+/// Adds copies of terms at the end.
+fn push_copies(alloc: Global, terms: &mut Vec<Term>, more: &[Term]) -> Result<(), Memory>
+    ensures { OnOk result (terms.new.items ≡ terms.old.items ++ more.now) }
+{
+    terms.reserve(more.len())?;
+    for term in more {
+        terms.push(term.copy(alloc)?)?;
+    }
+    Ok(())
+}
+
 impl Dictionary {
     /// The terms of these quads. More terms than ranks are answered as want of memory.
     pub(crate) fn of(alloc: Global, quads: &[Quad]) -> Result<Dictionary, Memory>
@@ -145,6 +156,35 @@ impl Dictionary {
         Ok(Dictionary { terms })
     }
 
+    /// These terms and those of another dictionary, in their order, each once. Lists that are in order
+    /// by themselves are merged. More terms than ranks are answered as want of memory.
+    pub(crate) fn joined(
+        alloc: Global,
+        terms: Vec<Term>,
+        other: &Dictionary,
+    ) -> Result<Dictionary, Memory>
+        ensures terms { IfOk result (λ it. it ≡ sorted_set term_cmp (terms.items ++ other.now)) }
+        ensures ascending { IfOk result (λ it. IsStrictlySortedBy term_cmp it) }
+    {
+        let mut terms = terms;
+        push_copies(alloc, &mut terms, other.terms.as_slice())?;
+        terms.sort()?;
+        terms.dedup();
+        if terms.len() >= u32::MAX as usize {
+            return Err(Memory);
+        }
+        Ok(Dictionary { terms })
+    }
+
+    /// The terms, in their order.
+    pub(crate) fn terms(&self) -> &[Term]
+        ensures terms { result.now ≡ self.now }
+        ensures ascending { IsStrictlySortedBy term_cmp self.now }
+        ensures few { length self.now < 2 ^ 32 - 1 }
+    {
+        self.terms.as_slice()
+    }
+
     /// The rank of a term, where it is in the dictionary.
     pub(crate) fn rank_of(&self, term: &Term) -> Option<u32>
         ensures some { IfSome result (λ rank. (rank < length self.now) × (term_at self.now rank ≡ term.now)) }
@@ -154,6 +194,14 @@ impl Dictionary {
             Ok(rank) => Some(rank as u32),
             Err(_) => None,
         }
+    }
+
+    /// The rank of a term, where it is in the dictionary, or else a number that says nothing. The search
+    /// is spared where the rank is one more than a number that is near, or that number.
+    pub(crate) fn rank_behind(&self, term: &Term, near: u32) -> u32
+        ensures { is_known self.now term.now ≡ true → (result < length self.now) × (term_at self.now result ≡ term.now) }
+    {
+        self.rank_near(term, near.saturating_add(1)).unwrap_or(near)
     }
 
     /// Whether a term has a rank.

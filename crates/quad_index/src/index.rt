@@ -1,4 +1,4 @@
-ghost use Rattle.std.specs.Prelude.{◌≡◌, ◌≤◌, ◌&&◌, true, not, length, IfOk, OnOk, OnErr};
+ghost use Rattle.std.specs.Prelude.{◌≡◌, ◌≤◌, ◌&&◌, ◌++◌, true, not, length, IfOk, OnOk, OnErr};
 ghost use Rattle.std.specs.List.{filter};
 ghost use Rattle.std.specs.List.Sorted.{IsStrictlySortedBy};
 ghost use Rattle.std.specs.BTreeSet.{insert_key};
@@ -13,7 +13,7 @@ ghost use Rattle.quad_index.specs.Letters.{IsChosen};
 use crate::code::{self, Code};
 use crate::dictionary::Dictionary;
 use crate::run::{self, Run};
-use crate::{Order, Orders, Test, runs};
+use crate::{Order, Orders, Test, carry, runs};
 use rdf_term::{Duplicate, GraphPick, Memory, Pattern, Quad, Quads, Scan};
 use std::alloc::Global;
 use std::marker::Model;
@@ -90,6 +90,31 @@ impl Index {
         let orders = runs::orders(alloc, self.runs.as_slice())?;
         let index = Index::made(alloc, orders.as_slice(), quads.as_slice())?;
         Ok(index)
+    }
+
+    /// This set without some quads and then with others, in the orders of this index. Quads of both are
+    /// there. It copies each term once, and looks for none but those of the given quads, so that it
+    /// costs less than building the set again.
+    pub fn changed(&self, alloc: Global, added: &Quads, removed: &Quads) -> Result<Index, Memory>
+        ensures quads { IfOk result (λ index. index.quads ≡ in_order (filter (λ q. not (is_in q removed.now)) self.now.quads ++ added.now)) }
+        ensures orders { IfOk result (λ index. index.orders ≡ self.now.orders) }
+    {
+        let codes = self.codes.as_slice();
+        let left = carry::codes_without(alloc, &self.terms, codes, removed.as_slice())?;
+        let left = left.as_slice();
+        let used = carry::used(alloc, &self.terms, left)?;
+        let added = added.as_slice();
+        let terms = Dictionary::joined(alloc, used, &Dictionary::of(alloc, added)?)?;
+        let mut codes = carry::carried(alloc, &terms, &self.terms, left)?;
+        codes.extend_from_slice(terms.codes_of(alloc, added)?.as_slice())?;
+        let codes = code::set_of(codes);
+        let runs = runs::of_codes(alloc, self.runs.as_slice(), codes.as_slice())?;
+        Ok(Index {
+            alloc,
+            terms,
+            codes,
+            runs,
+        })
     }
 
     /// All quads.

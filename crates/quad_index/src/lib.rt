@@ -4,6 +4,7 @@
 //! its set of quads, a strictly ascending list, and its list of orders.
 #![tactic(auto)]
 
+mod carry;
 mod code;
 mod dictionary;
 mod index;

@@ -7,8 +7,8 @@ use Rattle.branch.specs.Deltas.{matched_by}
 use Rattle.branch.proofs.deltas.matched.Goals as goal
 
 pub loop-pattern-preserved : goal.loop-pattern-preserved
-loop-pattern-preserved c =
-    let base = c.args.base.now.quads in
+loop-pattern-preserved g c =
+    let base = g.S.Scan.content c.args.base.now in
     let patterns = c.args.patterns.now in
     let i = c.loop-pattern.pattern-index in
     let item = c.pattern-item.result in

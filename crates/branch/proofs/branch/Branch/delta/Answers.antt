@@ -1,5 +1,4 @@
-use Rattle.std.proofs.Common.{◌&&◌, not, map, filter, subst, ap, ◌∙◌}
-use Rattle.std.specs.Arc.{arc_value}
+use Rattle.std.proofs.Common.{◌&&◌, not, filter, subst, ap, ◌∙◌}
 use Rattle.std.specs.List.Sorted.{IsStrictlySortedBy}
 use Rattle.rdf_term.specs.Order.{quad_cmp}
 use Rattle.rdf_term.specs.Matching.{matches}
@@ -18,7 +17,7 @@ returns c =
     let set = c.args.set.now in
     let ascending : IsStrictlySortedBy quad_cmp base =
     subst (λ (it : Layered). IsStrictlySortedBy quad_cmp it.quads) c.self.view_is
-    (sorted-layered c.self.inside.base.value.quads (map arc_value c.self.inside.layers.items) c.self.invariant.ascending) in
+    (sorted-layered c.self.inside.base.value.quads c.self.inside.layers c.self.invariant) in
     record {
       added = c.absent.ensures
           ∙ ap (filter (λ (q : Statement). not (is_in q base)))
