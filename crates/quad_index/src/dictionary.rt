@@ -1,5 +1,5 @@
 //! The terms of a set of quads by their ranks.
-ghost use Rattle.std.specs.Prelude.{◌≡◌, ℕ, ◌<◌, ◌≤◌, ◌-◌, ◌^◌, ◌++◌, true, false, length, map, fold, IfOk, OnOk, IfSome, IfNone};
+ghost use Rattle.std.specs.Prelude.{◌≡◌, ℕ, ◌<◌, ◌≤◌, ◌-◌, ◌^◌, true, false, length, map, fold, IfOk, OnOk, IfSome, IfNone};
 ghost use Rattle.std.specs.List.{flat_map, AllByRecursion};
 ghost use Rattle.std.specs.Option.{option_copied};
 ghost use Rattle.std.specs.List.Sorted.{IsStrictlySortedBy};
@@ -131,17 +131,6 @@ fn copies(alloc: Global, seen: &BTreeSet<&Term>) -> Result<Vec<Term>, Memory>
     Ok(terms)
 }
 
-/// Adds copies of terms at the end.
-fn push_copies(alloc: Global, terms: &mut Vec<Term>, more: &[Term]) -> Result<(), Memory>
-    ensures { OnOk result (terms.new.items ≡ terms.old.items ++ more.now) }
-{
-    terms.reserve(more.len())?;
-    for term in more {
-        terms.push(term.copy(alloc)?)?;
-    }
-    Ok(())
-}
-
 impl Dictionary {
     /// The terms of these quads. More terms than ranks are answered as want of memory.
     pub(crate) fn of(alloc: Global, quads: &[Quad]) -> Result<Dictionary, Memory>
@@ -156,24 +145,26 @@ impl Dictionary {
         Ok(Dictionary { terms })
     }
 
-    /// These terms and those of another dictionary, in their order, each once. Lists that are in order
-    /// by themselves are merged. More terms than ranks are answered as want of memory.
-    pub(crate) fn joined(
-        alloc: Global,
-        terms: Vec<Term>,
-        other: &Dictionary,
-    ) -> Result<Dictionary, Memory>
-        ensures terms { IfOk result (λ it. it ≡ sorted_set term_cmp (terms.items ++ other.now)) }
+    /// These terms, in their order, each once. Lists that are in order by themselves are merged. More
+    /// terms than ranks are answered as want of memory.
+    pub(crate) fn from_terms(terms: Vec<Term>) -> Result<Dictionary, Memory>
+        ensures terms { IfOk result (λ it. it ≡ sorted_set term_cmp terms.items) }
         ensures ascending { IfOk result (λ it. IsStrictlySortedBy term_cmp it) }
     {
         let mut terms = terms;
-        push_copies(alloc, &mut terms, other.terms.as_slice())?;
         terms.sort()?;
         terms.dedup();
         if terms.len() >= u32::MAX as usize {
             return Err(Memory);
         }
         Ok(Dictionary { terms })
+    }
+
+    /// The terms, in their order.
+    pub(crate) fn into_terms(self) -> Vec<Term>
+        ensures { result.items ≡ self }
+    {
+        self.terms
     }
 
     /// The terms, in their order.

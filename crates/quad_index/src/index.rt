@@ -102,9 +102,11 @@ impl Index {
         let codes = self.codes.as_slice();
         let left = carry::codes_without(alloc, &self.terms, codes, removed.as_slice())?;
         let left = left.as_slice();
-        let used = carry::used(alloc, &self.terms, left)?;
         let added = added.as_slice();
-        let terms = Dictionary::joined(alloc, used, &Dictionary::of(alloc, added)?)?;
+        let mut all = carry::used(alloc, &self.terms, left)?;
+        let mut new = Dictionary::of(alloc, added)?.into_terms();
+        all.append(&mut new)?;
+        let terms = Dictionary::from_terms(all)?;
         let mut codes = carry::carried(alloc, &terms, &self.terms, left)?;
         codes.extend_from_slice(terms.codes_of(alloc, added)?.as_slice())?;
         let codes = code::set_of(codes);

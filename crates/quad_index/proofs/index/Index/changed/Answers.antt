@@ -2,6 +2,8 @@ use Rattle.std.proofs.Common.{◌≡◌, ◌∙◌, ◌++◌, List, not, map, sy
 use Rattle.std.specs.List.{All, AllByRecursion, filter}
 use Rattle.std.specs.List.Sorted.{IsStrictlySortedBy}
 use Rattle.rdf_term.specs.Sets.{sorted_set}
+use Rattle.rdf_term.specs.declared.term.Term.{Term}
+use Rattle.rdf_term.specs.Order.{term_cmp}
 use Rattle.rdf_term.specs.Statement.{Statement}
 use Rattle.rdf_term.proofs.SetLemmas.{sorted_set-sorted}
 use Rattle.quad_index.specs.declared.code.Code.{Code}
@@ -13,10 +15,12 @@ use Rattle.quad_index.proofs.CarryLemmas.{all_added, all_both, joined_quads, sti
 use Rattle.quad_index.proofs.index.Index.changed.Goals as goal
 
 pub carried-requires-clause-known : goal.carried-requires-clause-known
-carried-requires-clause-known c = still_used c.in_ok-terms.terms c.self.inside.terms c.in_ok-used.used.items c.in_ok-of.field-0 c.as_slice-left.result.now c.in_ok-terms.ensures.terms c.in_ok-used.ensures
+carried-requires-clause-known c = still_used c.in_ok-terms.terms c.self.inside.terms c.in_ok-all.all.items c.in_ok-of.field-0 c.as_slice-left.result.now
+    (c.in_ok-terms.ensures.terms ∙ ap (sorted_set term_cmp) (c.in_ok-append.ensures.items ∙ ap (λ (more : List Term). c.in_ok-all.all.items ++ more) c.into_terms-new.ensures)) c.in_ok-all.ensures
 
 pub codes_of-requires : goal.codes_of-requires
-codes_of-requires c = all_added c.in_ok-terms.terms c.in_ok-used.used.items c.in_ok-of.field-0 c.as_slice-added.result.now c.in_ok-terms.ensures.terms
+codes_of-requires c = all_added c.in_ok-terms.terms c.in_ok-all.all.items c.in_ok-of.field-0 c.as_slice-added.result.now
+    (c.in_ok-terms.ensures.terms ∙ ap (sorted_set term_cmp) (c.in_ok-append.ensures.items ∙ ap (λ (more : List Term). c.in_ok-all.all.items ++ more) c.into_terms-new.ensures))
     (all_known c.in_ok-of.field-0 c.as_slice-added.result.now c.in_ok-of.ensures.terms)
 
 pub invariant_of-result : goal.invariant_of-result
