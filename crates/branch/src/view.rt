@@ -51,6 +51,15 @@ impl View {
         View { base, layers }
     }
 
+    /// The number of change sets above the base, those of the branch and of the stack. A scan looks each
+    /// of them up.
+    pub fn layers(&self) -> usize
+        ensures number { result ≡ self.now.layers }
+        ensures ascending { IsStrictlySortedBy quad_cmp self.now.quads }
+    {
+        self.layers.len()
+    }
+
     /// Whether a quad is in the content. It takes no memory.
     pub fn holds(&self, quad: &Quad) -> bool
         ensures value { result ≡ is_in quad.now self.now.quads }
