@@ -3,6 +3,7 @@ pub mod Holding
 pub mod ListLemmas
 pub mod PrefixLemmas
 pub mod SizeLemmas
+pub mod StackLemmas
 pub mod StateLemmas
 pub mod Steps
 pub mod Views

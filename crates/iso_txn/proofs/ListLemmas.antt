@@ -9,7 +9,7 @@ use Rattle.rdf_term.specs.OrderLaws.{quad_total, quad_exact}
 use Rattle.rdf_term.proofs.SetLemmas.{same_set}
 use Rattle.change_set.specs.declared.change.Change.{Change}
 use Rattle.change_set.specs.Content.{applied, SameChanges}
-use Rattle.change_set.proofs.Contents.{has-applied, sorted-applied, applied-append}
+use Rattle.change_set.proofs.Contents.{has-applied, sorted-applied}
 use Rattle.change_set.proofs.Effects.{SameChanges-append, SameChanges-trans}
 use Rattle.journal.specs.declared.txn.Txn.{Txn}
 use Rattle.iso_txn.specs.Kept.{Pending, picked, changes_where}
@@ -20,16 +20,12 @@ pub applied-none : (quads : List Statement) → IsStrictlySortedBy quad_cmp quad
 applied-none quads s = same_set quad_total quad_exact (applied quads []) quads (sorted-applied quads []) s (λ q. has-applied quads [] q)
 
 -- one more write
-where_more : (test : Txn → Bool) (ws : List Pending) (i : ℕ) (w : Pending) → i < length ws → w ≡ get_or ws i w
+pub where_more : (test : Txn → Bool) (ws : List Pending) (i : ℕ) (w : Pending) → i < length ws → w ≡ get_or ws i w
     → changes_where test (take i ws) ++ picked test w ≡ changes_where test (take (i + 1) ws)
 where_more test ws i w h is =
     ap (λ r. changes_where test (take i ws) ++ r) (sym (append-nil (picked test w)))
     ∙ (sym (where-append test (take i ws) (w ∷ []))
     ∙ ap (changes_where test) (sym (take_more ws i w h ∙ ap (λ x. take i ws ++ x ∷ []) (sym is))))
-
-pub applied_more : (test : Txn → Bool) (base : List Statement) (ws : List Pending) (i : ℕ) (w : Pending) → i < length ws → w ≡ get_or ws i w
-    → applied (applied base (changes_where test (take i ws))) (picked test w) ≡ applied base (changes_where test (take (i + 1) ws))
-applied_more test base ws i w h is = applied-append base (changes_where test (take i ws)) (picked test w) ∙ ap (applied base) (where_more test ws i w h is)
 
 -- two halves
 pub same_halves : (test : Txn → Bool) (ws : List Pending) (n : ℕ) (both one other : List Change) → SameChanges both (one ++ other)

@@ -2,4 +2,5 @@ pub mod Held
 pub mod Kept
 pub mod Repository
 pub mod Sizes
+pub mod Stacks
 pub mod Watch

@@ -1,12 +1,15 @@
 ghost use Rattle.std.specs.Prelude.{◌≡◌, ◌<◌, ◌≤◌, ◌^◌, length, if◌then◌else◌, IfOk, OnErr, []};
 ghost use Rattle.std.specs.Arc.{arc_value};
+ghost use Rattle.std.specs.List.Sorted.{IsStrictlySortedBy};
 ghost use Rattle.std.specs.Option.{is_some, option_map};
+ghost use Rattle.rdf_term.specs.Order.{quad_cmp};
+ghost use Rattle.branch.specs.Layers.{layered};
 ghost use Rattle.change_set.specs.Content.{applied, named_quads};
 ghost use Rattle.journal.specs.Replies.{within};
 ghost use Rattle.iso_txn.specs.Kept.{changed_within};
 
 use crate::sizes;
-use branch::Branch;
+use branch::{Branch, Stack, View};
 use change_set::ChangeSet;
 use journal::Limits;
 use quad_index::{Index, Orders};
@@ -85,6 +88,15 @@ impl Content {
     {
         let branch = self.branch.pin()?;
         Ok(branch)
+    }
+
+    /// What is seen above the content with these changes, none of which is merged.
+    pub(crate) fn view(&self, own: &Stack) -> Result<View, Memory>
+        ensures quads { IfOk result (λ view. view.quads ≡ layered self.now own.now) }
+        ensures ascending { IsStrictlySortedBy quad_cmp self.now }
+    {
+        let view = self.branch.view(own)?;
+        Ok(view)
     }
 
     /// The same content, which shares what is kept of it.

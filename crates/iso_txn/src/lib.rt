@@ -11,9 +11,11 @@ mod pending;
 mod pinned;
 mod prefixes;
 mod repository;
+mod seen;
 mod sizes;
 mod state;
 mod watch;
+mod writes;
 
 pub use pinned::Pinned;
 pub use repository::RepoState;

@@ -1,13 +1,13 @@
 //! Lists of open transactions and of pending writes.
-ghost use Rattle.std.specs.Prelude.{◌≡◌, IfOk, OnOk};
+ghost use Rattle.std.specs.Prelude.{◌≡◌, IfOk};
+ghost use Rattle.std.specs.List.{list_any};
 ghost use Rattle.std.specs.Option.{option_copied};
-ghost use Rattle.change_set.specs.Content.{applied, SameChanges};
+ghost use Rattle.change_set.specs.Content.{SameChanges};
 ghost use Rattle.journal.specs.Levels.{is_txn};
-ghost use Rattle.iso_txn.specs.Kept.{changes_where, find_open, is_among, pending_without, picked, sees, without};
+ghost use Rattle.iso_txn.specs.Kept.{Pending, changes_where, find_open, is_among, pending_without, without};
 
 use crate::opened::OpenTxn;
 use crate::pending::PendingWrite;
-use branch::Branch;
 use change_set::ChangeSet;
 use journal::Txn;
 use rdf_term::Memory;
@@ -34,39 +34,18 @@ pub(crate) fn close(open_txns: &mut Vec<OpenTxn>, txn: Txn)
     open_txns.retain(|it| !it.is_of(txn));
 }
 
+/// Whether one of the writes is of the transaction.
+pub(crate) fn is_writing(writes: &[PendingWrite], txn: Txn) -> bool
+    ensures { result ≡ list_any (λ (it : Pending). is_txn it.txn txn) writes.now }
+{
+    writes.iter().any(|it| it.is_of(txn))
+}
+
 /// Takes the writes of a transaction out.
 pub(crate) fn discard(writes: &mut Vec<PendingWrite>, txn: Txn)
     ensures { writes.new.items ≡ pending_without txn writes.old.items }
 {
     writes.retain(|it| !it.is_of(txn));
-}
-
-/// Applies a pending write where a read in the transaction sees it.
-fn push_if_seen(branch: &mut Branch, write: &PendingWrite, txn: Txn) -> Result<(), Memory>
-    ensures { OnOk result (branch.new.quads ≡ applied branch.old.quads (picked (sees txn) write.now)) }
-{
-    if !write.is_seen(txn) {
-        // Its clause says that the quads of a branch ascend.
-        let _ = branch.layers();
-        return Ok(());
-    }
-    write.push_onto(branch)
-}
-
-/// Applies the pending writes that a read in the transaction sees, in their order.
-pub(crate) fn push_seen(
-    branch: &mut Branch,
-    writes: &[PendingWrite],
-    txn: Txn,
-) -> Result<(), Memory>
-    ensures { OnOk result (branch.new.quads ≡ applied branch.old.quads (changes_where (sees txn) writes.now)) }
-{
-    // Its clause says that the quads of a branch ascend.
-    let _ = branch.layers();
-    for write in writes {
-        push_if_seen(branch, write, txn)?;
-    }
-    Ok(())
 }
 
 /// The changes of a transaction's pending writes.

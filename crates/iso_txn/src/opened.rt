@@ -1,10 +1,13 @@
 ghost use Rattle.std.specs.Prelude.{◌≡◌, IfOk};
+ghost use Rattle.std.specs.List.Sorted.{IsStrictlySortedBy};
 ghost use Rattle.std.specs.Option.{unwrap_or};
+ghost use Rattle.rdf_term.specs.Order.{quad_cmp};
+ghost use Rattle.branch.specs.Layers.{layered};
 ghost use Rattle.journal.specs.Levels.{is_txn};
 ghost use Rattle.iso_txn.specs.Kept.{base_at};
 
 use crate::content::Content;
-use branch::Branch;
+use branch::{Branch, Stack, View};
 use journal::Txn;
 use rdf_term::Memory;
 use std::marker::Model;
@@ -53,13 +56,19 @@ impl OpenTxn {
         self.txn == txn
     }
 
-    /// What its reads see below the pending writes.
-    pub(crate) fn below(&self, content: &Content) -> Result<Branch, Memory>
-        ensures { IfOk result (λ branch. branch.quads ≡ unwrap_or self.now.base content.now) }
+    /// What its reads see above what they read, with these changes.
+    pub(crate) fn view(&self, content: &Content, own: &Stack) -> Result<View, Memory>
+        ensures quads { IfOk result (λ view. view.quads ≡ layered (unwrap_or self.now.base content.now) own.now) }
+        ensures ascending { IsStrictlySortedBy quad_cmp (unwrap_or self.now.base content.now) }
     {
         match &self.base {
-            Some(base) => base.pin(),
-            None => content.pin(),
+            Some(base) => {
+                // Its clause says that the quads of a branch ascend.
+                let _ = base.layers();
+                let view = base.view(own)?;
+                Ok(view)
+            }
+            None => content.view(own),
         }
     }
 }

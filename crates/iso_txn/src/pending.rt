@@ -1,9 +1,10 @@
 ghost use Rattle.std.specs.Prelude.{◌≡◌, IfOk, OnOk};
-ghost use Rattle.change_set.specs.Content.{applied, SameChanges};
+ghost use Rattle.change_set.specs.Content.{SameChanges};
 ghost use Rattle.journal.specs.Levels.{is_txn};
 ghost use Rattle.iso_txn.specs.Kept.{picked, sees};
+ghost use Rattle.iso_txn.specs.Stacks.{IsHigher};
 
-use branch::Branch;
+use branch::Stack;
 use change_set::{ChangeSet, Changes};
 use journal::{Level, Txn};
 use rdf_term::{Duplicate, Memory};
@@ -32,6 +33,20 @@ impl Model for PendingWrite {
     ghost invariant = { λ it. SameChanges it.set.value it.changes.value };
 }
 
+/// Whether a read in a transaction sees the pending writes of another one, or its own.
+pub(crate) fn sees(txn: Txn, other: Txn) -> bool
+    ensures { result ≡ sees txn other }
+{
+    match txn.level {
+        Level::NoIsolation => false,
+        Level::ReadUncommitted => other.level == Level::ReadUncommitted,
+        Level::ReadCommitted => txn == other,
+        Level::SnapshotRead => txn == other,
+        Level::Snapshot => txn == other,
+        Level::Serializable => txn == other,
+    }
+}
+
 impl PendingWrite {
     /// The write of these changes in a transaction.
     pub(crate) fn new(alloc: Global, txn: Txn, changes: &Changes) -> Result<PendingWrite, Memory>
@@ -52,26 +67,26 @@ impl PendingWrite {
         self.txn == txn
     }
 
+    /// Its transaction.
+    pub(crate) fn txn(&self) -> Txn
+        ensures { result ≡ self.now.txn }
+    {
+        self.txn
+    }
+
     /// Whether a read in a transaction sees it.
     pub(crate) fn is_seen(&self, txn: Txn) -> bool
         ensures { result ≡ sees txn self.now.txn }
     {
-        match txn.level {
-            Level::NoIsolation => false,
-            Level::ReadUncommitted => self.txn.level == Level::ReadUncommitted,
-            Level::ReadCommitted => txn == self.txn,
-            Level::SnapshotRead => txn == self.txn,
-            Level::Snapshot => txn == self.txn,
-            Level::Serializable => txn == self.txn,
-        }
+        sees(txn, self.txn)
     }
 
-    /// Applies the changes to a branch, which shares them.
-    pub(crate) fn push_onto(&self, branch: &mut Branch) -> Result<(), Memory>
-        ensures { OnOk result (branch.new.quads ≡ applied branch.old.quads self.now.changes) }
+    /// Puts the changes on a stack, which shares them.
+    pub(crate) fn push_onto(&self, stack: &mut Stack) -> Result<(), Memory>
+        ensures { OnOk result (IsHigher stack.old self.now.changes stack.new) }
     {
         let set = Arc::try_clone(&self.set)?;
-        branch.push_shared(set)?;
+        stack.push_shared(set)?;
         Ok(())
     }
 

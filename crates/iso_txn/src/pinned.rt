@@ -3,7 +3,7 @@ ghost use Rattle.std.specs.Option.{option_map};
 ghost use Rattle.branch.specs.Layers.{Layered};
 ghost use Rattle.iso_txn.specs.Repository.{pinned_of};
 
-use branch::Branch;
+use branch::View;
 use rdf_term::Memory;
 use std::alloc::Global;
 use std::marker::Model;
@@ -13,7 +13,7 @@ use std::marker::Model;
 /// may find.
 #[derive(Drop)]
 pub struct Pinned {
-    views: Vec<Branch>,
+    views: Vec<View>,
     live: bool,
     rows: u64,
 }
@@ -41,7 +41,7 @@ impl Pinned {
     }
 
     /// What a read sees that has one view.
-    fn one(alloc: Global, view: Branch, rows: u64) -> Result<Pinned, Memory>
+    fn one(alloc: Global, view: View, rows: u64) -> Result<Pinned, Memory>
         ensures { IfOk result (λ it. it ≡ record { views = view.quads ∷ []; live = true; rows = rows }) }
     {
         let mut views = Vec::new(alloc);
@@ -54,8 +54,8 @@ impl Pinned {
     }
 
     /// What a read sees, or what stands for it where its transaction is not open.
-    pub(crate) fn of(alloc: Global, view: Option<Branch>, rows: u64) -> Result<Pinned, Memory>
-        ensures { IfOk result (λ it. it ≡ pinned_of (option_map (λ (branch : Layered). branch.quads) view) rows) }
+    pub(crate) fn of(alloc: Global, view: Option<View>, rows: u64) -> Result<Pinned, Memory>
+        ensures { IfOk result (λ it. it ≡ pinned_of (option_map (λ (view : Layered). view.quads) view) rows) }
     {
         match view {
             Some(view) => Pinned::one(alloc, view, rows),
@@ -68,7 +68,7 @@ impl Pinned {
     }
 
     /// Adds the view of one more step. Without memory it stays as it was.
-    pub(crate) fn add(&mut self, view: Branch, live: bool, rows: u64) -> Result<(), Memory>
+    pub(crate) fn add(&mut self, view: View, live: bool, rows: u64) -> Result<(), Memory>
         ensures ok { OnOk result (self.new ≡ record { views = self.old.views ++ view.quads ∷ []; live = self.old.live && live; rows = rows }) }
         ensures memory { OnErr result (self.new ≡ self.old) }
     {
@@ -86,7 +86,7 @@ impl Pinned {
     }
 
     /// The contents, in the order of the read's entries.
-    pub fn views(&self) -> &[Branch]
+    pub fn views(&self) -> &[View]
         ensures { map (λ (view : Layered). view.quads) result.now ≡ self.now.views }
     {
         self.views.as_slice()

@@ -15,7 +15,8 @@ use crate::opened::OpenTxn;
 use crate::pending::PendingWrite;
 use crate::prefixes::Prefixes;
 use crate::watch::Watch;
-use branch::Branch;
+use crate::writes::Writes;
+use branch::{Stack, View};
 use change_set::{ChangeSet, Changes};
 use journal::{Ask, Limits, NamesOp, Reply, Txn};
 use quad_index::Orders;
@@ -33,7 +34,7 @@ pub(crate) struct State {
     alloc: Global,
     content: Content,
     open_txns: Vec<OpenTxn>,
-    writes: Vec<PendingWrite>,
+    writes: Writes,
     prefixes: Prefixes,
     commits: u64,
     watch: Watch,
@@ -44,7 +45,7 @@ impl Model for State {
 
     ghost Value = { Kept };
 
-    ghost view = { λ it. record { content = it.content; open_txns = it.open_txns.items; writes = it.writes.items; prefixes = it.prefixes; commits = it.commits; watch = it.watch } };
+    ghost view = { λ it. record { content = it.content; open_txns = it.open_txns.items; writes = it.writes; prefixes = it.prefixes; commits = it.commits; watch = it.watch } };
 }
 
 /// The reply that a quad was changed that a read observed by this pattern.
@@ -65,7 +66,7 @@ impl State {
             alloc,
             content: Content::new(alloc, orders)?,
             open_txns: Vec::new(alloc),
-            writes: Vec::new(alloc),
+            writes: Writes::new(alloc),
             prefixes: Prefixes::new(alloc),
             commits: 0,
             watch: Watch::new(alloc),
@@ -212,7 +213,7 @@ impl State {
         ensures { self.new ≡ ended place self.old txn }
     {
         lists::close(&mut self.open_txns, txn);
-        lists::discard(&mut self.writes, txn);
+        self.writes.discard(txn);
         self.watch.end(place, txn);
     }
 
@@ -230,7 +231,7 @@ impl State {
         ensures state { OnOk result (self.new ≡ commit_kept limits.now place self.old txn) }
         ensures memory { OnErr result (self.new ≡ self.old) }
     {
-        let own = lists::own_changes(self.alloc, &self.writes, txn)?;
+        let own = self.writes.own_changes(txn)?;
         if !self.apply(limits, place, &own)? {
             return Ok(Reply::TooLarge);
         }
@@ -318,36 +319,43 @@ impl State {
         }
     }
 
+    /// The committed content, as a read sees it.
+    fn committed(&self) -> Result<View, Memory>
+        ensures { IfOk result (λ view. view.quads ≡ self.now.content) }
+    {
+        self.content.view(&Stack::new(self.alloc))
+    }
+
     /// What a read sees, where its transaction is open or it has none.
-    pub(crate) fn view(&self, txn: Option<Txn>) -> Result<Option<Branch>, Memory>
-        ensures { IfOk result (λ view. option_map (λ (branch : Layered). branch.quads) view ≡ seen self.now txn) }
+    pub(crate) fn view(&self, txn: Option<Txn>) -> Result<Option<View>, Memory>
+        ensures { IfOk result (λ view. option_map (λ (view : Layered). view.quads) view ≡ seen self.now txn) }
     {
         match txn {
-            None => Ok(Some(self.content.pin()?)),
+            None => Ok(Some(self.committed()?)),
             Some(txn) => self.view_in(txn),
         }
     }
 
     /// What a read in a transaction sees where that is open, else the committed content.
-    pub(crate) fn view_or_content(&self, txn: Txn) -> Result<Branch, Memory>
-        ensures { IfOk result (λ branch. branch.quads ≡ unwrap_or (seen self.now (Some txn)) self.now.content) }
+    pub(crate) fn view_or_content(&self, txn: Txn) -> Result<View, Memory>
+        ensures { IfOk result (λ view. view.quads ≡ unwrap_or (seen self.now (Some txn)) self.now.content) }
     {
         match self.view_in(txn)? {
             Some(view) => Ok(view),
-            None => self.content.pin(),
+            None => self.committed(),
         }
     }
 
     /// What a read in a transaction sees, where that is open.
-    fn view_in(&self, txn: Txn) -> Result<Option<Branch>, Memory>
-        ensures { IfOk result (λ view. option_map (λ (branch : Layered). branch.quads) view ≡ seen self.now (Some txn)) }
+    fn view_in(&self, txn: Txn) -> Result<Option<View>, Memory>
+        ensures { IfOk result (λ view. option_map (λ (view : Layered). view.quads) view ≡ seen self.now (Some txn)) }
     {
         match lists::find_open(&self.open_txns, txn) {
             None => Ok(None),
             Some(opened) => {
-                let mut branch = opened.below(&self.content)?;
-                lists::push_seen(&mut branch, &self.writes, txn)?;
-                Ok(Some(branch))
+                let own = self.writes.stack(txn)?;
+                let view = opened.view(&self.content, &own)?;
+                Ok(Some(view))
             }
         }
     }

@@ -8,7 +8,7 @@ use crate::listing::listed;
 use crate::names::graph_names;
 use crate::size::sized;
 use bgp_eval::{EvalFault, answer_query};
-use branch::Branch;
+use branch::View;
 use iso_txn::Pinned;
 use journal::{Ask, Reply, Terms};
 use query_model::{Found, Query};
@@ -16,7 +16,7 @@ use rdf_term::{Memory, Quads};
 use std::alloc::Global;
 
 /// What a query finds as a reply; one with too many solutions finds nothing.
-fn queried(alloc: Global, query: &Query, views: &[Branch], most: u64) -> Result<Reply, Memory>
+fn queried(alloc: Global, query: &Query, views: &[View], most: u64) -> Result<Reply, Memory>
     ensures { IfOk result (λ reply. reply ≡ answer_of (found_query query.now (map (λ (view : Layered). view.quads) views.now) most)) }
 {
     match answer_query(alloc, query, views, most) {
@@ -31,12 +31,7 @@ fn queried(alloc: Global, query: &Query, views: &[Branch], most: u64) -> Result<
 /// What an ask finds in the content of its first view, or a query in one for each of its patterns.
 /// Where there is no view, nothing is found in it.
 #[tactic(auto, unfolding(journal::specs::Found::found))]
-pub(crate) fn found_in(
-    alloc: Global,
-    ask: &Ask,
-    views: &[Branch],
-    most: u64,
-) -> Result<Reply, Memory>
+pub(crate) fn found_in(alloc: Global, ask: &Ask, views: &[View], most: u64) -> Result<Reply, Memory>
     ensures { IfOk result (λ reply. reply ≡ found ask.now (map (λ (view : Layered). view.quads) views.now) most) }
 {
     match (ask, views.first()) {

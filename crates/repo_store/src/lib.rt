@@ -8,7 +8,9 @@ mod listing;
 mod local;
 mod names;
 mod size;
+mod sole;
 
 pub use answers::answer;
 pub use laws::{first_step_is_next, next_step_stays, pinned_is_answered};
 pub use local::LocalRepo;
+pub use sole::SoleRepo;

@@ -7,7 +7,7 @@ ghost use Rattle.rdf_term.specs.Order.{graph_cmp};
 ghost use Rattle.journal.specs.Found.{anywhere, in_graphs, matching};
 ghost use Rattle.repo_store.specs.Graphs.{graph_by_graph, in_each, is_in_one};
 
-use branch::Branch;
+use branch::View;
 use journal::Graphs;
 use rdf_term::{Duplicate, Graph, GraphPick, Memory, Pattern, Quads, Scan, Term};
 use std::alloc::Global;
@@ -49,7 +49,7 @@ fn one_by_one(
     p: &Option<Term>,
     o: &Option<Term>,
     graphs: &[Graph],
-    view: &Branch,
+    view: &View,
 ) -> Result<Quads, Memory>
     ensures { IfOk result (λ quads. quads ≡ graph_by_graph (anywhere s.now p.now o.now) graphs.now view.now.quads) }
 {
@@ -90,7 +90,7 @@ fn at_once(
     p: &Option<Term>,
     o: &Option<Term>,
     graphs: &[Graph],
-    view: &Branch,
+    view: &View,
 ) -> Result<Quads, Memory>
     ensures { IfOk result (λ quads. quads ≡ matching (in_each (anywhere s.now p.now o.now) graphs.now) view.now.quads) }
 {
@@ -106,7 +106,7 @@ pub(crate) fn listed(
     p: &Option<Term>,
     o: &Option<Term>,
     contexts: &Graphs,
-    view: &Branch,
+    view: &View,
 ) -> Result<Quads, Memory>
     ensures { IfOk result (λ quads. quads ≡ matching (in_graphs (anywhere s.now p.now o.now) contexts.now) view.now.quads) }
 {

@@ -11,20 +11,15 @@ ghost use Rattle.query_model.specs.Solutions.{lookups_of};
 ghost use Rattle.iso_txn.specs.Repository.{AreAllowed, IsFull, with_entry};
 ghost use Rattle.repo_store.specs.Stores.{IsEntered, IsNextStep, IsPinnedAt, answered, is_of_one_seat};
 
+use crate::sole::{SEAT, SoleRepo};
 use change_set::Changes;
-use iso_txn::{Pinned, RepoState};
-use journal::{
-    Ask, Entry, Level, Limits, NamesOp, Op, Reply, StoreFault, Txn, done_commit_reads_as_if_alone,
-    each_entry_is_judged_once, legal_in_turn, reply_at_the_end,
-};
+use iso_txn::Pinned;
+use journal::{Ask, Entry, Level, Limits, NamesOp, Op, Reply, StoreFault, Txn, legal_in_turn};
 use quad_index::Orders;
 use query_model::Query;
 use rdf_term::{Duplicate, Memory};
 use std::alloc::Global;
 use std::marker::Model;
-
-/// The number of the one seat of a local repository.
-const SEAT: u32 = 0;
 
 /// A repository for one caller, which stores its journal. Contracts see it as its limits and that
 /// journal.
@@ -35,7 +30,7 @@ const SEAT: u32 = 0;
 pub struct LocalRepo {
     alloc: Global,
     limits: Limits,
-    state: RepoState,
+    repo: SoleRepo,
     entries: Vec<Entry>,
 }
 
@@ -45,9 +40,9 @@ impl Model for LocalRepo {
 
     ghost Value = { Repository };
 
-    ghost view = { λ it. it.state };
+    ghost view = { λ it. it.repo };
 
-    ghost invariant = { λ it. IsStored 0 it.limits it.state it.entries.items };
+    ghost invariant = { λ it. IsStored 0 it.limits it.repo it.entries.items };
 }
 
 /// Makes room for one more entry where the journal may have one more.
@@ -74,11 +69,11 @@ impl LocalRepo {
         ensures journal { IfOk result (λ repo. repo.journal ≡ []) }
     {
         legal_in_turn();
-        let state = RepoState::new(alloc, orders, limits)?;
+        let repo = SoleRepo::new(alloc, orders, limits)?;
         Ok(LocalRepo {
             alloc,
             limits,
-            state,
+            repo,
             entries: Vec::new(alloc),
         })
     }
@@ -103,15 +98,13 @@ impl LocalRepo {
         ensures room { result ≡ Err StoreFault.JournalFull → IsFull self.old }
     {
         legal_in_turn();
-        reply_at_the_end();
         make_room(&mut self.entries, &self.limits)?;
-        let place = self.state.length();
-        let reply = self.state.begin(SEAT, level)?;
+        let entered = self.repo.begin(level)?;
         self.entries.push_reserved(Entry {
             seat: SEAT,
             op: Op::Begin(level),
         });
-        Ok((place, reply))
+        Ok(entered)
     }
 
     /// Changes the content, in a transaction or in none. Without a transaction and at NONE the changes
@@ -123,16 +116,14 @@ impl LocalRepo {
         ensures room { result ≡ Err StoreFault.JournalFull → IsFull self.old }
     {
         legal_in_turn();
-        reply_at_the_end();
         make_room(&mut self.entries, &self.limits)?;
         let op = Op::Write {
             txn,
             changes: changes.copy(self.alloc)?,
         };
-        let place = self.state.length();
-        let reply = self.state.write(SEAT, txn, changes)?;
+        let entered = self.repo.write(txn, changes)?;
         self.entries.push_reserved(Entry { seat: SEAT, op });
-        Ok((place, reply))
+        Ok(entered)
     }
 
     /// Commits the changes of a transaction and ends it. Where the reply is `TooLarge` or `Conflict`, the
@@ -146,16 +137,13 @@ impl LocalRepo {
         ensures room { result ≡ Err StoreFault.JournalFull → IsFull self.old }
     {
         legal_in_turn();
-        reply_at_the_end();
-        done_commit_reads_as_if_alone();
         make_room(&mut self.entries, &self.limits)?;
-        let place = self.state.length();
-        let reply = self.state.commit(SEAT, txn)?;
+        let entered = self.repo.commit(txn)?;
         self.entries.push_reserved(Entry {
             seat: SEAT,
             op: Op::Commit(txn),
         });
-        Ok((place, reply))
+        Ok(entered)
     }
 
     /// Ends a transaction without its changes. Those at NONE are committed and stay.
@@ -166,15 +154,13 @@ impl LocalRepo {
         ensures room { result ≡ Err StoreFault.JournalFull → IsFull self.old }
     {
         legal_in_turn();
-        reply_at_the_end();
         make_room(&mut self.entries, &self.limits)?;
-        let place = self.state.length();
-        let reply = self.state.rollback(SEAT, txn)?;
+        let entered = self.repo.rollback(txn)?;
         self.entries.push_reserved(Entry {
             seat: SEAT,
             op: Op::Rollback(txn),
         });
-        Ok((place, reply))
+        Ok(entered)
     }
 
     /// Asks whether a transaction is open.
@@ -185,15 +171,13 @@ impl LocalRepo {
         ensures room { result ≡ Err StoreFault.JournalFull → IsFull self.old }
     {
         legal_in_turn();
-        reply_at_the_end();
         make_room(&mut self.entries, &self.limits)?;
-        let place = self.state.length();
-        let reply = self.state.ping(SEAT, txn)?;
+        let entered = self.repo.ping(txn)?;
         self.entries.push_reserved(Entry {
             seat: SEAT,
             op: Op::Ping(txn),
         });
-        Ok((place, reply))
+        Ok(entered)
     }
 
     /// Asks or changes the namespaces, which belong to no transaction. A new prefix is `TooLarge` where as
@@ -205,13 +189,11 @@ impl LocalRepo {
         ensures room { result ≡ Err StoreFault.JournalFull → IsFull self.old }
     {
         legal_in_turn();
-        reply_at_the_end();
         make_room(&mut self.entries, &self.limits)?;
         let op = Op::Names(names.copy(self.alloc)?);
-        let place = self.state.length();
-        let reply = self.state.names(SEAT, names)?;
+        let entered = self.repo.names(names)?;
         self.entries.push_reserved(Entry { seat: SEAT, op });
-        Ok((place, reply))
+        Ok(entered)
     }
 
     /// Reads, in a transaction or in none. What [`answer`](crate::answer) makes of what is pinned and of
@@ -231,10 +213,9 @@ impl LocalRepo {
             txn,
             ask: ask.copy(self.alloc)?,
         };
-        let place = self.state.length();
-        let pinned = self.state.pin_read(SEAT, txn, ask)?;
+        let entered = self.repo.pin(txn, ask)?;
         self.entries.push_reserved(Entry { seat: SEAT, op });
-        Ok((place, pinned))
+        Ok(entered)
     }
 
     /// Makes one step of a query in a READ_COMMITTED transaction, which adds what it sees to what is
@@ -261,15 +242,13 @@ impl LocalRepo {
         ensures room { result ≡ Err StoreFault.JournalFull → IsFull self.old }
     {
         legal_in_turn();
-        each_entry_is_judged_once();
         make_room(&mut self.entries, &self.limits)?;
         let op = Op::Step {
             txn,
             query: query.copy(self.alloc)?,
             number,
         };
-        let place = self.state.length();
-        self.state.step(SEAT, txn, query, number, pinned)?;
+        let place = self.repo.step(txn, query, number, pinned)?;
         self.entries.push_reserved(Entry { seat: SEAT, op });
         Ok(place)
     }

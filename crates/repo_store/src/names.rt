@@ -6,7 +6,7 @@ ghost use Rattle.rdf_term.specs.Statement.{Statement};
 ghost use Rattle.query_model.specs.Solutions.{graph_terms};
 ghost use Rattle.journal.specs.Found.{graph_names};
 
-use branch::Branch;
+use branch::View;
 use journal::Terms;
 use rdf_term::{Duplicate, Graph, GraphPick, Memory, Pattern, Quad, Scan, Term};
 use std::alloc::Global;
@@ -39,7 +39,7 @@ fn in_turn(alloc: Global, set: BTreeSet<Term>) -> Result<Terms, Memory>
 }
 
 /// The names of the graphs of a content, in order, each once.
-pub(crate) fn graph_names(alloc: Global, view: &Branch) -> Result<Terms, Memory>
+pub(crate) fn graph_names(alloc: Global, view: &View) -> Result<Terms, Memory>
     ensures { IfOk result (λ names. names ≡ graph_names view.now.quads) }
 {
     let named = Pattern {

@@ -4,7 +4,7 @@ ghost use Rattle.journal.specs.Found.{anywhere, in_graphs, matching};
 ghost use Rattle.repo_store.specs.Graphs.{in_each};
 
 use crate::listing::{are_few, listed};
-use branch::Branch;
+use branch::View;
 use journal::Graphs;
 use rdf_term::{Duplicate, Graph, GraphPick, Memory, Pattern};
 use std::alloc::Global;
@@ -22,7 +22,7 @@ fn every_quad(c: GraphPick) -> Pattern
 }
 
 /// The number of quads in these graphs, at most `u64::MAX`.
-fn in_each(alloc: Global, graphs: &[Graph], view: &Branch) -> Result<u64, Memory>
+fn in_each(alloc: Global, graphs: &[Graph], view: &View) -> Result<u64, Memory>
     requires { EachOnce graphs.now }
     ensures { IfOk result (λ count. count ≡ min (length (matching (in_each (anywhere None None None) graphs.now) view.now.quads)) (2 ^ 64 - 1)) }
 {
@@ -35,7 +35,7 @@ fn in_each(alloc: Global, graphs: &[Graph], view: &Branch) -> Result<u64, Memory
 }
 
 /// The number of quads in these graphs, or in whatever graph where none is named, at most `u64::MAX`.
-fn counted(alloc: Global, contexts: &Graphs, view: &Branch) -> Result<u64, Memory>
+fn counted(alloc: Global, contexts: &Graphs, view: &View) -> Result<u64, Memory>
     ensures { IfOk result (λ count. count ≡ min (length (matching (in_graphs (anywhere None None None) contexts.now) view.now.quads)) (2 ^ 64 - 1)) }
 {
     let graphs = contexts.as_slice();
@@ -49,7 +49,7 @@ fn counted(alloc: Global, contexts: &Graphs, view: &Branch) -> Result<u64, Memor
 /// The number of quads of a content in these graphs, or in whatever graph where none is named. Those of
 /// few graphs are counted and not copied. A count that stands still at its end says nothing, so such
 /// quads are listed: no memory holds them.
-pub(crate) fn sized(alloc: Global, contexts: &Graphs, view: &Branch) -> Result<u64, Memory>
+pub(crate) fn sized(alloc: Global, contexts: &Graphs, view: &View) -> Result<u64, Memory>
     ensures { IfOk result (λ count. count ≡ length (matching (in_graphs (anywhere None None None) contexts.now) view.now.quads)) }
 {
     if are_few(contexts.as_slice()) {

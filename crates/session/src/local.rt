@@ -19,16 +19,16 @@ use quad_index::Orders;
 use query_model::Query;
 use rdf_io::{OpenGate, Sink, Source};
 use rdf_term::{Memory, Text};
-use repo_store::{LocalRepo, first_step_is_next};
+use repo_store::{SoleRepo, first_step_is_next};
 use std::alloc::Global;
 use std::marker::Model;
 
-/// Repositories for one caller, each with its journal. Contracts see their IDs, their limits and one
-/// repository for each ID, in order.
+/// Repositories for one caller, each with its journal, which takes no memory. Contracts see their IDs,
+/// their limits and one repository for each ID, in order.
 #[derive(Drop)]
 pub struct LocalHouse {
     catalog: Catalog,
-    repos: Vec<LocalRepo>,
+    repos: Vec<SoleRepo>,
 }
 
 impl Model for LocalHouse {
@@ -44,7 +44,7 @@ impl Model for LocalHouse {
 /// Adds a new repository to a list.
 fn add_new(
     alloc: Global,
-    repos: &mut Vec<LocalRepo>,
+    repos: &mut Vec<SoleRepo>,
     name: &Text,
     orders: &Orders,
     limits: Limits,
@@ -54,7 +54,7 @@ fn add_new(
     requires limits { AreAllowed limits }
     ensures { OnOk result (repos.new.items ≡ repos.old.items ++ map (new_repo limits) (name.now ∷ [])) }
 {
-    repos.push(LocalRepo::new(alloc, orders, limits)?)?;
+    repos.push(SoleRepo::new(alloc, orders, limits)?)?;
     Ok(())
 }
 
@@ -64,7 +64,7 @@ fn new_repos(
     names: &[Text],
     orders: &Orders,
     limits: Limits,
-) -> Result<Vec<LocalRepo>, Memory>
+) -> Result<Vec<SoleRepo>, Memory>
     requires some { 1 ≤ length orders.now }
     requires few { length orders.now ≤ 6 }
     requires limits { AreAllowed limits }
@@ -103,7 +103,7 @@ impl LocalHouse {
 impl Store for Catalog {
     ghost use Rattle.session.specs.Houses.{AreOf, MayStep, journals_of};
 
-    type Pass = Vec<LocalRepo>;
+    type Pass = Vec<SoleRepo>;
 
     ghost journals = { λ pass. journals_of pass.items };
 
@@ -123,7 +123,7 @@ impl Store for Catalog {
 
     fn begin(
         &self,
-        pass: &mut Vec<LocalRepo>,
+        pass: &mut Vec<SoleRepo>,
         repo: u32,
         level: Level,
     ) -> Result<(u64, Reply), StoreFault> {
@@ -132,7 +132,7 @@ impl Store for Catalog {
 
     fn pin(
         &self,
-        pass: &mut Vec<LocalRepo>,
+        pass: &mut Vec<SoleRepo>,
         repo: u32,
         txn: Option<Txn>,
         ask: &Ask,
@@ -142,7 +142,7 @@ impl Store for Catalog {
 
     fn step(
         &self,
-        pass: &mut Vec<LocalRepo>,
+        pass: &mut Vec<SoleRepo>,
         repo: u32,
         txn: Txn,
         query: &Query,
@@ -155,7 +155,7 @@ impl Store for Catalog {
 
     fn write(
         &self,
-        pass: &mut Vec<LocalRepo>,
+        pass: &mut Vec<SoleRepo>,
         repo: u32,
         txn: Option<Txn>,
         changes: &Changes,
@@ -165,7 +165,7 @@ impl Store for Catalog {
 
     fn commit(
         &self,
-        pass: &mut Vec<LocalRepo>,
+        pass: &mut Vec<SoleRepo>,
         repo: u32,
         txn: Txn,
     ) -> Result<(u64, Reply), StoreFault> {
@@ -174,7 +174,7 @@ impl Store for Catalog {
 
     fn rollback(
         &self,
-        pass: &mut Vec<LocalRepo>,
+        pass: &mut Vec<SoleRepo>,
         repo: u32,
         txn: Txn,
     ) -> Result<(u64, Reply), StoreFault> {
@@ -183,7 +183,7 @@ impl Store for Catalog {
 
     fn ping(
         &self,
-        pass: &mut Vec<LocalRepo>,
+        pass: &mut Vec<SoleRepo>,
         repo: u32,
         txn: Txn,
     ) -> Result<(u64, Reply), StoreFault> {
@@ -192,7 +192,7 @@ impl Store for Catalog {
 
     fn namespaces(
         &self,
-        pass: &mut Vec<LocalRepo>,
+        pass: &mut Vec<SoleRepo>,
         repo: u32,
         asked: &NamesOp,
     ) -> Result<(u64, Reply), StoreFault> {

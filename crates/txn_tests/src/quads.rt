@@ -2,7 +2,7 @@
 //!
 //! Terms stand in texts here: a local that holds terms is let go at every early return behind it, which
 //! makes proofs long.
-use branch::Branch;
+use branch::View;
 use change_set::{Change, Changes};
 use iso_txn::Pinned;
 use journal::{Ask, Graphs};
@@ -193,13 +193,13 @@ pub(crate) fn bytes(content: &Content) -> u64 {
     sum
 }
 
-fn holds(alloc: Global, view: &Branch, number: usize) -> Result<bool, Memory> {
+fn holds(alloc: Global, view: &View, number: usize) -> Result<bool, Memory> {
     let quad = quad(alloc, number)?;
     Ok(view.holds(&quad))
 }
 
 /// Which quads a view holds.
-fn content_of(alloc: Global, view: &Branch) -> Result<Content, Memory> {
+fn content_of(alloc: Global, view: &View) -> Result<Content, Memory> {
     let mut content = EMPTY;
     for number in 0..8 {
         content[number] = holds(alloc, view, number)?;

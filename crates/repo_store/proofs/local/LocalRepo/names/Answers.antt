@@ -8,8 +8,8 @@ use Rattle.repo_store.proofs.local.LocalRepo.names.Goals as goal
 pub invariant_of-self-2 : goal.invariant_of-self-2
 invariant_of-self-2 c =
     let op : Op = Names c.args.names.now in
-    stored_next c.legal_in_turn.ensures 0 c.self.inside.limits c.self.inside.state c.names.new.self c.self.inside.entries.items c.push_reserved.new.self.items op
-    c.self.invariant c.in_ok-reply.ensures.journal
+    stored_next c.legal_in_turn.ensures 0 c.self.inside.limits c.self.inside.repo c.names.new.self c.self.inside.entries.items c.push_reserved.new.self.items op
+    c.self.invariant c.in_ok-entered.ensures.entered.added
     (c.push_reserved.ensures.items ∙ ap (λ it. c.make_room.new.entries.items ++ entry_of 0 (Names it) ∷ []) c.in_ok-copy.ensures
     ∙ ap (λ es. es ++ entry_of 0 op ∷ []) c.make_room.ensures.entries)
     (λ t query number e. cc) refl

@@ -8,5 +8,5 @@ use Rattle.repo_store.proofs.local.LocalRepo.rollback.Goals as goal
 pub invariant_of-self-2 : goal.invariant_of-self-2
 invariant_of-self-2 c =
     let op : Op = Rollback c.args.txn in
-    stored_next c.legal_in_turn.ensures 0 c.self.inside.limits c.self.inside.state c.rollback.new.self c.self.inside.entries.items c.push_reserved.new.self.items op
-    c.self.invariant c.in_ok-reply.ensures.journal (c.push_reserved.ensures.items ∙ ap (λ es. es ++ entry_of 0 op ∷ []) c.make_room.ensures.entries) (λ t query number e. cc) refl
+    stored_next c.legal_in_turn.ensures 0 c.self.inside.limits c.self.inside.repo c.rollback.new.self c.self.inside.entries.items c.push_reserved.new.self.items op
+    c.self.invariant c.in_ok-entered.ensures.entered.added (c.push_reserved.ensures.items ∙ ap (λ es. es ++ entry_of 0 op ∷ []) c.make_room.ensures.entries) (λ t query number e. cc) refl
