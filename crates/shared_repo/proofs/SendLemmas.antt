@@ -14,10 +14,13 @@ use Rattle.change_set.specs.contracts.marked.Marked as Marked
 use Rattle.change_set.specs.contracts.kept.Kept as Kept
 use Rattle.change_set.specs.contracts.set.ChangeSet as ChangeSet
 use Rattle.quad_index.specs.contracts.index.Index as Index
+use Rattle.branch.specs.contracts.stack.Stack as Stack
 use Rattle.branch.specs.contracts.branch.Branch as Branch
 use Rattle.iso_txn.specs.contracts.content.Content as Content
 use Rattle.iso_txn.specs.contracts.opened.OpenTxn as OpenTxn
 use Rattle.iso_txn.specs.contracts.pending.PendingWrite as PendingWrite
+use Rattle.iso_txn.specs.contracts.seen.Seen as Seen
+use Rattle.iso_txn.specs.contracts.writes.Writes as Writes
 use Rattle.conflict.specs.contracts.observed.Observed as Observed
 use Rattle.conflict.specs.contracts.logged.Logged as Logged
 use Rattle.conflict.specs.contracts.log.CommitLog as CommitLog
@@ -91,11 +94,17 @@ index_send = search (term_field_send, sendable, crosses) depth 30
 index_sync : IsSync Index.the_row
 index_sync = search (term_field_sync, sendable, crosses) depth 30
 
+stack_send : IsSend Stack.the_row
+stack_send = search (set_send, set_sync, sendable, crosses) depth 30
+
+stack_sync : IsSync Stack.the_row
+stack_sync = search (set_send, set_sync, sendable, crosses) depth 30
+
 branch_send : IsSend Branch.the_row
-branch_send = search (set_send, set_sync, index_send, index_sync, sendable, crosses) depth 30
+branch_send = search (stack_send, index_send, index_sync, sendable, crosses) depth 30
 
 branch_sync : IsSync Branch.the_row
-branch_sync = search (set_send, set_sync, index_send, index_sync, sendable, crosses) depth 30
+branch_sync = search (stack_sync, index_send, index_sync, sendable, crosses) depth 30
 
 content_send : IsSend Content.the_row
 content_send = search (branch_send, sendable, crosses) depth 30
@@ -114,6 +123,18 @@ pending_send = search (set_send, set_sync, sendable, crosses) depth 30
 
 pending_sync : IsSync PendingWrite.the_row
 pending_sync = search (set_send, set_sync, sendable, crosses) depth 30
+
+seen_send : IsSend Seen.the_row
+seen_send = search (stack_send, sendable, crosses) depth 30
+
+seen_sync : IsSync Seen.the_row
+seen_sync = search (stack_sync, sendable, crosses) depth 30
+
+writes_send : IsSend Writes.the_row
+writes_send = search (pending_send, seen_send, sendable, crosses) depth 30
+
+writes_sync : IsSync Writes.the_row
+writes_sync = search (pending_sync, seen_sync, sendable, crosses) depth 30
 
 observed_send : IsSend Observed.the_row
 observed_send = search (pattern_field_send, sendable, crosses) depth 30
@@ -146,10 +167,10 @@ prefixes_sync : IsSync Prefixes.the_row
 prefixes_sync = search (text_sync, maps.crosses, sendable, crosses) depth 30
 
 state_send : IsSend State.the_row
-state_send = search (content_send, opened_send, pending_send, prefixes_send, watch_send, sendable, crosses) depth 30
+state_send = search (content_send, opened_send, writes_send, prefixes_send, watch_send, sendable, crosses) depth 30
 
 state_sync : IsSync State.the_row
-state_sync = search (content_sync, opened_sync, pending_sync, prefixes_sync, watch_sync, sendable, crosses) depth 30
+state_sync = search (content_sync, opened_sync, writes_sync, prefixes_sync, watch_sync, sendable, crosses) depth 30
 
 -- A story leads back to itself, and no search goes through it, so its facts are handed in.
 repo_send : IsSend (Story.the_row Noted.the_row) → IsSend RepoState.the_row

@@ -38,7 +38,7 @@ fn numbered(alloc: Global, number: u64) -> Result<Quad, Memory> {
 }
 
 /// The quads of the numbers below this one.
-fn numbered_below(alloc: Global, end: u64) -> Result<Quads, Memory> {
+pub(crate) fn numbered_below(alloc: Global, end: u64) -> Result<Quads, Memory> {
     let mut quads = Quads::new(alloc);
     for number in 0..end {
         quads.push(numbered(alloc, number)?)?;
@@ -56,13 +56,13 @@ pub(crate) fn index(alloc: Global, quads: &Quads) -> Result<Index, Memory> {
     Index::build(alloc, &orders, quads)
 }
 
-fn adding(alloc: Global, quad: &Quad) -> Result<ChangeSet, Memory> {
+pub(crate) fn adding(alloc: Global, quad: &Quad) -> Result<ChangeSet, Memory> {
     let mut changes = Changes::new(alloc);
     changes.push(Change::Add(quad.copy(alloc)?))?;
     ChangeSet::from_changes(alloc, changes.as_slice())
 }
 
-fn emptying(alloc: Global) -> Result<ChangeSet, Memory> {
+pub(crate) fn emptying(alloc: Global) -> Result<ChangeSet, Memory> {
     let mut changes = Changes::new(alloc);
     changes.push(Change::RemoveMatching(pattern(None, None, GraphPick::Any)))?;
     ChangeSet::from_changes(alloc, changes.as_slice())
@@ -173,7 +173,7 @@ fn pushes_leave_layers_that_halve(rt: HostRuntime) -> Result<(), Memory> {
 }
 
 /// A branch of the first two of four quads, the second in a layer.
-fn of_two(alloc: Global, quads: &[Quad]) -> Result<Branch, Memory> {
+pub(crate) fn of_two(alloc: Global, quads: &[Quad]) -> Result<Branch, Memory> {
     let mut base = Quads::new(alloc);
     for quad in &quads[..quads.len().min(1)] {
         base.push(quad.copy(alloc)?)?;

@@ -9,3 +9,5 @@ mod changes;
 mod index;
 #[cfg(test)]
 mod trials;
+#[cfg(test)]
+mod views;
